@@ -1,0 +1,58 @@
+-- A record of the listing: "records of 18 bytes: tag 1, small 1, first 2, second 2, line 2, flags 2, value 8".
+use Prim.Native.Nat.{ℕ, _+_}
+use mathlib.Core.Bool.{Bool, true, false, cond, _&&_, _||_}
+use mathlib.Core.List.{List, [], _∷_, _++_}
+use lib.Dec.{eqb}
+use Rattle.definitions.specs.Bytes.{number, bytes}
+use Rattle.definitions.specs.Tag.{Row, rowOf, tagSize, emitted}
+
+pub record Instr : Type 0 where
+  pub tag : ℕ
+  -- arg_count, size or is_weak
+  pub small : ℕ
+  -- labels, or distances in their place: the only one, or false_label, first_case, next_case; exit of Conditional, body of SwitchLabel
+  pub first : ℕ
+  pub second : ℕ
+  pub line : ℕ
+  pub flags : ℕ
+  -- "an index or a constant's own bits, zero-extended; EnumConst has the enum in the high 32 bits"
+  pub value : ℕ
+
+-- the virtual size of a record
+abbrev pub size : Instr → ℕ
+size i = tagSize (i .tag)
+
+abbrev pub recordLength : ℕ
+recordLength = 18
+
+-- its bytes
+unfoldable pub recordBytes : Instr → List ℕ
+recordBytes i =
+    bytes 1 (i .tag) ++ (bytes 1 (i .small) ++ (bytes 2 (i .first) ++ (bytes 2 (i .second) ++ (bytes 2 (i .line) ++ (bytes 2 (i .flags) ++ bytes 8 (i .value))))))
+
+-- and back: the record in the bytes of s at `at`
+unfoldable pub recordAt : (s : List ℕ) (at : ℕ) → Instr
+recordAt s at = record {
+  tag = number 1 s at;
+  small = number 1 s (at + 1);
+  first = number 2 s (at + 2);
+  second = number 2 s (at + 4);
+  line = number 2 s (at + 6);
+  flags = number 2 s (at + 8);
+  value = number 8 s (at + 10);
+}
+
+-- "Unused fields are 0"
+unfoldable pub unused0 : (used : Bool) (field : ℕ) → Bool
+unused0 used n = used || eqb n 0
+
+-- a record that a listing may hold: a tag that the base emits, and unused fields 0
+unfoldable pub goodRecord : Instr → Bool
+goodRecord i =
+    emitted (i .tag) && unused0 (rowOf (i .tag) .small) (i .small) && unused0 (rowOf (i .tag) .first) (i .first)
+    && unused0 (rowOf (i .tag) .second) (i .second) && unused0 (rowOf (i .tag) .line) (i .line)
+    && unused0 (rowOf (i .tag) .flags) (i .flags) && unused0 (rowOf (i .tag) .value) (i .value)
+
+-- a record with no label: what its tag does not use of `small` and `value` is 0, so that "an unused index is ignored"
+abbrev pub plain : (tag small value : ℕ) → Instr
+plain t m n = record { tag = t; small = cond (rowOf t .small) m 0; first = 0; second = 0; line = 0; flags = 0; value = cond (rowOf t .value) n 0 }

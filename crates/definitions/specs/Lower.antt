@@ -1,0 +1,339 @@
+-- Lowering: what each node emits, in the order of assemble, assemble_expr, assemble_call, emit_call and emit_intrinsic.
+use Prim.Native.Nat.{ℕ, zero, suc, _+_, _-_, _*_}
+use mathlib.Core.Bool.{Bool, true, false, cond, _&&_, _||_, not}
+use mathlib.Core.List.{List, [], _∷_, _++_}
+use mathlib.Core.Option.{Option, none, some}
+use lib.Dec.{leb, ltb, eqb}
+use lib.ListN.{getD}
+use Rattle.definitions.specs.Tag.{Nop, Null, I8Const, U64Const, Assign, Local, Param, ObjectField, Switch, SwitchLabel, SwitchDefault, Jump, JumpIfFalse, Skip, Conditional, Construct, InvokeStatic, InvokeVirtual, ParamEnd, Return, StructField, Context, New, This, ArrayClear, ArrayResize, ArrayElement, StaticArrayElement, I32ToEnum, DynamicCast, WeakRefToRef, WeakRefNull, defaultTags, constTag, intrinsicOf, codeAsRef, codeDeref}
+use Rattle.definitions.specs.Instr.{Instr, plain}
+use Rattle.definitions.specs.Tree.{Callee, Expr, Exprs, Stmt, Block, Branches, Cases, Default, Script, nop, const, null, newInstance, construct, assign, field, element, conditional, dynCast, local, intrinsic, freeCall, staticCall, instanceCall, closureCall, enil, econs, expr, nest, while, branches, switch, initArray, initDefault, break, continue, return, returnNothing, bnil, bcons, brnil, brcons, cnil, ccons, absent, present, lengthE, lengthC, isPresent, placeOf}
+use Rattle.definitions.specs.Code.{Code, mark, emit, refuse, done, act, _then_, label, many, emits, Outcome, execute, start}
+
+-- 1. Instructions
+
+-- with no label: its tag and its value
+abbrev pub instr : (tag value : ℕ) → Code
+instr t v = act (emit (plain t 0 v))
+
+-- with one label
+abbrev pub jump : (tag to : ℕ) → Code
+jump t l = act (emit (record { tag = t; small = 0; first = l; second = 0; line = 0; flags = 0; value = 0 }))
+
+-- Conditional and SwitchLabel
+abbrev pub jumps : (tag first second : ℕ) → Code
+jumps t l m = act (emit (record { tag = t; small = 0; first = l; second = m; line = 0; flags = 0; value = 0 }))
+
+abbrev pub emitSwitch : (type firstCase : ℕ) → Code
+emitSwitch t l = act (emit (record { tag = Switch; small = 0; first = l; second = 0; line = 0; flags = 0; value = t }))
+
+abbrev pub invoke : (tag exit line flags value : ℕ) → Code
+invoke t l n f v = act (emit (record { tag = t; small = 0; first = l; second = 0; line = n; flags = f; value = v }))
+
+-- nothing where a check is passed, else the refusal
+unfoldable pub require : (passed : Bool) → (number place extra : ℕ) → Code
+require true n p x = done
+require false n p x = act (refuse n p x)
+
+-- 2. What decides an argument's flag
+
+-- is_prvalue: not a local, a capture, a field, an index or a Deref
+unfoldable pub isPrvalue : Expr → Bool
+isPrvalue (nop at) = true
+isPrvalue (const at b v) = true
+isPrvalue (null at w) = true
+isPrvalue (newInstance at c) = true
+isPrvalue (construct at c es) = true
+isPrvalue (assign at p e) = true
+isPrvalue (field at f n e) = false
+isPrvalue (element at d t a i) = false
+isPrvalue (conditional at c t e) = true
+isPrvalue (dynCast at c w e) = true
+isPrvalue (local at f i) = false
+isPrvalue (intrinsic at k s t i es) = not (eqb k codeDeref)
+isPrvalue (freeCall at c es) = true
+isPrvalue (staticCall at c es) = true
+isPrvalue (instanceCall at w e c es) = true
+isPrvalue (closureCall at e n l es) = true
+
+-- exactly one, and is_prvalue
+unfoldable pub onePrvalue : Exprs → Bool
+onePrvalue enil = false
+onePrvalue (econs e enil) = isPrvalue e
+onePrvalue (econs e (econs e′ es)) = false
+
+-- "An AsRef intrinsic with exactly one argument that is_prvalue sets the flag of its index"
+unfoldable pub isFlagged : Expr → Bool
+isFlagged (nop at) = false
+isFlagged (const at b v) = false
+isFlagged (null at w) = false
+isFlagged (newInstance at c) = false
+isFlagged (construct at c es) = false
+isFlagged (assign at p e) = false
+isFlagged (field at f n e) = false
+isFlagged (element at d t a i) = false
+isFlagged (conditional at c t e) = false
+isFlagged (dynCast at c w e) = false
+isFlagged (local at f i) = false
+isFlagged (intrinsic at k s t i es) = eqb k codeAsRef && onePrvalue es
+isFlagged (freeCall at c es) = false
+isFlagged (staticCall at c es) = false
+isFlagged (instanceCall at w e c es) = false
+isFlagged (closureCall at e n l es) = false
+
+-- the flags of arguments, the first of which has the bit `bit`
+unfoldable pub flagsOf : Exprs → (bit : ℕ) → ℕ
+flagsOf enil bit = 0
+flagsOf (econs e es) bit = cond (isFlagged e) bit 0 + flagsOf es (2 * bit)
+
+-- "flagged argument at index 16 or later" 13, "place that argument, extra index + 1": of the arguments from index i on
+unfoldable pub requireFlags : Exprs → (i : ℕ) → Code
+requireFlags enil i = done
+requireFlags (econs e es) i = require (not (isFlagged e) || ltb i 16) 13 (placeOf e) (i + 1) then requireFlags es (i + 1)
+
+-- 3. Expressions
+
+-- an object by weak reference
+unfoldable pub weakToRef : (weak : ℕ) → Code
+weakToRef zero = done
+weakToRef (suc w) = instr WeakRefToRef 0
+
+unfoldable pub nullTag : (weak : ℕ) → ℕ
+nullTag zero = Null
+nullTag (suc w) = WeakRefNull
+
+unfoldable pub elementTag : (dynamic : ℕ) → ℕ
+elementTag zero = StaticArrayElement
+elementTag (suc d) = ArrayElement
+
+unfoldable pub localTag : (form : ℕ) → ℕ
+localTag f = getD (This ∷ Local ∷ Param ∷ []) f ObjectField
+
+-- a field of a struct, or of an object behind a Context
+unfoldable pub lowerField : (at form name : ℕ) → (receiver : Code) → Code
+lowerField at zero name receiver = instr StructField name then receiver
+lowerField at (suc weak) name receiver =
+    label at λ exit. jump Context exit then weakToRef weak then receiver then instr ObjectField name then act (mark exit)
+
+-- "Short-circuit parameters put Skip before the argument"
+unfoldable pub lowerArg : (at shortCircuit : ℕ) → (argument : Code) → Code
+lowerArg at zero argument = argument
+lowerArg at (suc s) argument = label at λ skip. jump Skip skip then argument then act (mark skip)
+
+-- "absent ones give Nop"
+unfoldable pub nops : (params : List ℕ) → Code
+nops [] = done
+nops (p ∷ ps) = instr Nop 0 then nops ps
+
+-- InvokeStatic with the function where any flag bit is set, else InvokeVirtual with the name
+unfoldable pub emitInvoke : (flagByte : ℕ) → (exit line flags function name : ℕ) → Code
+emitInvoke zero exit line flags function name = invoke InvokeVirtual exit line flags name
+emitInvoke (suc b) exit line flags function name = invoke InvokeStatic exit line flags function
+
+-- emit_call, with the code of its arguments
+unfoldable pub emitCall : (at : ℕ) → Callee → Exprs → (arguments : Code) → Code
+emitCall at c args arguments =
+    label at λ exit. requireFlags args 0 then emitInvoke (c .flags) exit (c .line) (flagsOf args 1) (c .function) (c .name) then
+    arguments then instr ParamEnd 0 then act (mark exit)
+
+unfoldable mutual
+  pub lowerExpr : Expr → Code
+  lowerExpr (nop at) = instr Nop 0
+  lowerExpr (const at b v) = instr (constTag b v) v
+  lowerExpr (null at weak) = instr (nullTag weak) 0
+  lowerExpr (newInstance at class) = instr New class
+  -- "Construct with 256 or more" 12, "extra the count"
+  lowerExpr (construct at class args) =
+      require (ltb (lengthE args) 256) 12 at (lengthE args) then act (emit (plain Construct (lengthE args) class)) then lowerExprs args
+  lowerExpr (assign at p e) = instr Assign 0 then lowerExpr p then lowerExpr e
+  lowerExpr (field at form name e) = lowerField at form name (lowerExpr e)
+  lowerExpr (element at dynamic type a i) = instr (elementTag dynamic) type then lowerExpr a then lowerExpr i
+  lowerExpr (conditional at c t e) =
+      label at λ else. label at λ exit.
+      jumps Conditional else exit then lowerExpr c then lowerExpr t then act (mark else) then lowerExpr e then act (mark exit)
+  lowerExpr (dynCast at class weak e) = act (emit (plain DynamicCast weak class)) then lowerExpr e
+  lowerExpr (local at form i) = instr (localTag form) i
+  -- "intrinsic with short-circuit mark or wrong type count" 14
+  lowerExpr (intrinsic at code short types i args) =
+      require (eqb short 0 && eqb types (intrinsicOf code .types)) 14 at 0 then
+      act (emit (plain (intrinsicOf code .tag) (intrinsicOf code .small) i)) then lowerExprs args
+  lowerExpr (freeCall at c args) = emitCall at c args (lowerArgs args at (c .params))
+  -- "A static call makes one label that nothing carries"
+  lowerExpr (staticCall at c args) = label at λ exit. emitCall at c args (lowerArgs args at (c .params)) then act (mark exit)
+  lowerExpr (instanceCall at weak e c args) =
+      label at λ exit. jump Context exit then weakToRef weak then lowerExpr e then
+      emitCall at c args (lowerArgs args at (c .params)) then act (mark exit)
+  -- "A closure call has neither Skip, Nop nor flags"
+  lowerExpr (closureCall at e name line args) =
+      label at λ context. jump Context context then lowerExpr e then act (mark context) then
+      label at λ exit. invoke InvokeVirtual exit line 0 name then lowerExprs args then instr ParamEnd 0 then act (mark exit)
+
+  pub lowerExprs : Exprs → Code
+  lowerExprs enil = done
+  lowerExprs (econs e es) = lowerExpr e then lowerExprs es
+
+  -- arguments with the marks of their parameters
+  pub lowerArgs : Exprs → (at : ℕ) → (params : List ℕ) → Code
+  lowerArgs enil at ps = nops ps
+  lowerArgs (econs e es) at [] = lowerExpr e then lowerArgs es at []
+  lowerArgs (econs e es) at (p ∷ ps) = lowerArg at p (lowerExpr e) then lowerArgs es at ps
+
+-- 4. Statements without blocks
+
+-- elements of an InitArray from number i on
+unfoldable pub lowerElements : Exprs → (local type i : ℕ) → Code
+lowerElements enil l t i = done
+lowerElements (econs e es) l t i =
+    emits (plain Assign 0 0 ∷ plain ArrayElement 0 t ∷ plain Local 0 l ∷ plain U64Const 0 i ∷ []) then lowerExpr e then lowerElements es l t (i + 1)
+
+-- nothing at all for an array with no element
+unfoldable pub lowerArray : Exprs → (local type : ℕ) → Code
+lowerArray enil l t = done
+lowerArray (econs e es) l t =
+    emits (plain ArrayResize 0 t ∷ plain Local 0 l ∷ plain U64Const 0 (suc (lengthE es)) ∷ []) then lowerElements (econs e es) l t 0
+
+-- primitive number k of default bytes 5 to 21: the first four store the unit's index, the others 0; after the last there is no value
+unfoldable pub primitiveDefault : (k i : ℕ) → List Instr
+primitiveDefault k i = cond (ltb k 17) (plain (getD defaultTags k Nop) 0 (cond (ltb k 4) i 0) ∷ []) []
+
+abbrev assigned : (local : ℕ) → (value : List Instr) → List Instr
+assigned l is = plain Assign 0 0 ∷ plain Local 0 l ∷ is
+
+-- "0 variant, 1 array, 2 struct, 3 other aggregate, 4 enum, 5 to 21 the seventeen primitives, 22 a primitive with no value"
+unfoldable pub defaultInstrs : (local byte i : ℕ) → List Instr
+defaultInstrs l b i = getD
+    ([]
+    ∷ (plain ArrayClear 0 i ∷ plain Local 0 l ∷ [])
+    ∷ assigned l (plain Construct 0 i ∷ [])
+    ∷ assigned l (plain Null 0 0 ∷ [])
+    ∷ assigned l (plain I32ToEnum 1 i ∷ plain I8Const 0 0 ∷ [])
+    ∷ []) b (assigned l (primitiveDefault (b - 5) i))
+
+-- Return before its value where the unit has a return value, else after it and with a Nop
+unfoldable pub lowerReturn : (returns : ℕ) → (value : Code) → Code
+lowerReturn zero value = value then instr Return 0 then instr Nop 0
+lowerReturn (suc r) value = instr Return 0 then value
+
+unfoldable pub lowerReturnNothing : Code
+lowerReturnNothing = instr Return 0 then instr Nop 0
+
+-- 5. Statements
+
+-- BlockSpan: the labels where break and continue go; and the unit's return byte
+pub record Scope : Type 0 where
+  pub onBreak : Option ℕ
+  pub onContinue : Option ℕ
+  pub returns : ℕ
+
+abbrev pub outside : (returns : ℕ) → Scope
+outside r = record { onBreak = none; onContinue = none; returns = r }
+
+abbrev pub inLoop : (start end : ℕ) → Scope → Scope
+inLoop start end scope = record { onBreak = some end; onContinue = some start; returns = scope .returns }
+
+-- a switch takes break, and lets continue through to the loop
+abbrev pub inSwitch : (end : ℕ) → Scope → Scope
+inSwitch end scope = record { onBreak = some end; onContinue = scope .onContinue; returns = scope .returns }
+
+-- "break without loop or switch; continue without loop" 10; 11
+unfoldable pub jumpTo : (number at : ℕ) → Option ℕ → Code
+jumpTo number at none = act (refuse number at 0)
+jumpTo number at (some l) = jump Jump l
+
+-- "With a default and default_index below the case count"
+unfoldable pub midDefault : Default → (index : ℕ) → Cases → Bool
+midDefault d index cs = isPresent d && ltb index (lengthC cs)
+
+-- "A group runs to the first case whose block has a statement, or to the last case": does a case with this block, and these after it, end its group
+unfoldable pub endsGroup : Block → Cases → Bool
+endsGroup (bcons s b) cs = true
+endsGroup bnil cnil = true
+endsGroup bnil (ccons m b cs) = false
+
+-- the body label of the group that is open, or a new one
+unfoldable pub inGroup : Option ℕ → (at : ℕ) → (ℕ → Code) → Code
+inGroup none at k = label at k
+inGroup (some body) at k = k body
+
+unfoldable mutual
+  pub lowerStmt : Stmt → Scope → Code
+  lowerStmt (expr at e) scope = lowerExpr e
+  lowerStmt (nest at b) scope = lowerBlock b scope
+  lowerStmt (while at c b) scope =
+      label at λ start. label at λ end.
+      act (mark start) then jump JumpIfFalse end then lowerExpr c then lowerBlock b (inLoop start end scope) then jump Jump start then act (mark end)
+  -- "Branches makes 2 labels and one more per branch; the last `next` stays unmarked and uncarried"
+  lowerStmt (branches at bs d) scope =
+      label at λ next. label at λ exit.
+      lowerBranches bs at next exit scope then lowerDefault d scope then act (mark exit)
+  -- "Switch makes end, then first"; a mid default: "one body each, the default body, one `next` per case"; otherwise by groups
+  lowerStmt (switch at type e index cs d) scope =
+      label at λ end. label at λ first.
+      emitSwitch type first then lowerExpr e then
+      cond (midDefault d index cs)
+      (label at λ body. many at (lengthC cs)
+      (lowerMatchers cs at first body then instr SwitchDefault 0 then jump Jump (body + lengthC cs) then
+      lowerBodies cs index body (body + lengthC cs) (lowerDefault d (inSwitch end scope)) (inSwitch end scope)))
+      (lowerCases cs at first none (inSwitch end scope) then lowerLast d (inSwitch end scope)) then
+      act (mark end)
+  lowerStmt (initArray at l t es) scope = lowerArray es l t
+  lowerStmt (initDefault at l b i) scope = emits (defaultInstrs l b i)
+  lowerStmt (break at) scope = jumpTo 10 at (scope .onBreak)
+  lowerStmt (continue at) scope = jumpTo 11 at (scope .onContinue)
+  lowerStmt (return at e) scope = lowerReturn (scope .returns) (lowerExpr e)
+  lowerStmt (returnNothing at) scope = lowerReturnNothing
+
+  -- the labels of a switch with a mid default, all with their matchers; `body` is the label of the first case's body
+  pub lowerMatchers : Cases → (at next body : ℕ) → Code
+  lowerMatchers cnil at next body = act (mark next)
+  lowerMatchers (ccons m b cs) at next body =
+      act (mark next) then label at λ next′. jumps SwitchLabel next′ body then lowerExpr m then lowerMatchers cs at next′ (body + 1)
+
+  -- then its blocks, the default before case `index`
+  pub lowerBodies : Cases → (index body dflt : ℕ) → (default : Code) → Scope → Code
+  lowerBodies cnil index body dflt default scope = done
+  lowerBodies (ccons m b cs) zero body dflt default scope =
+      act (mark dflt) then default then act (mark body) then lowerBlock b scope then lowerBlocks cs (body + 1) scope
+  lowerBodies (ccons m b cs) (suc index) body dflt default scope =
+      act (mark body) then lowerBlock b scope then lowerBodies cs index (body + 1) dflt default scope
+
+  pub lowerBlocks : Cases → (body : ℕ) → Scope → Code
+  lowerBlocks cnil body scope = done
+  lowerBlocks (ccons m b cs) body scope = act (mark body) then lowerBlock b scope then lowerBlocks cs (body + 1) scope
+
+  -- any other switch: each case's block after its matcher; a group's body is marked at its last case
+  pub lowerCases : Cases → (at next : ℕ) → (group : Option ℕ) → Scope → Code
+  lowerCases cnil at next group scope = act (mark next)
+  lowerCases (ccons m b cs) at next group scope =
+      inGroup group at λ body. act (mark next) then label at λ next′. jumps SwitchLabel next′ body then lowerExpr m then
+      cond (endsGroup b cs)
+      (act (mark body) then lowerBlock b scope then lowerCases cs at next′ none scope)
+      (lowerCases cs at next′ (some body) scope)
+
+  pub lowerLast : Default → Scope → Code
+  lowerLast absent scope = done
+  lowerLast (present b) scope = instr SwitchDefault 0 then lowerBlock b scope
+
+  -- `next` is the label of the first branch
+  pub lowerBranches : Branches → (at next exit : ℕ) → Scope → Code
+  lowerBranches brnil at next exit scope = done
+  lowerBranches (brcons c b bs) at next exit scope =
+      jump JumpIfFalse next then lowerExpr c then lowerBlock b scope then jump Jump exit then act (mark next) then
+      label at λ next′. lowerBranches bs at next′ exit scope
+
+  pub lowerDefault : Default → Scope → Code
+  lowerDefault absent scope = done
+  lowerDefault (present b) scope = lowerBlock b scope
+
+  pub lowerBlock : Block → Scope → Code
+  lowerBlock bnil scope = done
+  lowerBlock (bcons s b) scope = lowerStmt s scope then lowerBlock b scope
+
+-- 6. A unit
+
+abbrev pub codeOf : Script → Code
+codeOf u = lowerBlock (u .body) (outside (u .returns))
+
+-- the labelled instructions and the marks, or the refusal of the walk
+abbrev pub lower : Script → Outcome
+lower u = execute (codeOf u) start

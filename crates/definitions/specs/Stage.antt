@@ -1,0 +1,75 @@
+-- The whole stage: read, lower, resolve; and what lent buffers hold.
+use Prim.Native.Nat.{ℕ, _+_}
+use mathlib.Core.List.{List, [], _∷_, _++_}
+use lib.Dec.{leb}
+use lib.ListN.{length, drop}
+use lib.IntN.{ℤ}
+use Rattle.definitions.specs.Answer.{Answer, ok, refused, Result, made, refusal, onward, checked}
+use Rattle.definitions.specs.Tree.{Script}
+use Rattle.definitions.specs.Read.{parseUnit}
+use Rattle.definitions.specs.Instr.{Instr, size}
+use Rattle.definitions.specs.Code.{State, Outcome, going, stopped}
+use Rattle.definitions.specs.Lower.{lower}
+use Rattle.definitions.specs.Listing.{listingLength}
+use Rattle.definitions.specs.Resolve.{resolveRecords, signed}
+
+-- 1. The labelled listing of a unit: "the whole unit is read before the walk"
+
+unfoldable pub walked : Outcome → Result State
+walked (going s) = made s
+walked (stopped n p x) = refusal n p x
+
+unfoldable pub lowered : Answer Script → Result State
+lowered (ok u next) = walked (lower u)
+lowered (refused n p x) = refusal n p x
+
+abbrev pub labelled : (s : List ℕ) → Result State
+labelled s = lowered (parseUnit s)
+
+-- 2. Into lent buffers of so many bytes and words: "listing too short; label table too short" 20; 21, after the walk
+
+unfoldable pub lowerInto : (s : List ℕ) (bytes words : ℕ) → Result State
+lowerInto s bytes words =
+    onward (labelled s) λ l.
+    checked (leb (listingLength (length (l .instrs))) bytes) 20 0 0 (checked (leb (length (l .marks)) words) 21 0 0 (made l))
+
+-- a buffer after something is written at its start: "words past the last label and bytes past the listing are not written"
+unfoldable pub over : (written before : List ℕ) → List ℕ
+over w b = w ++ drop (length w) b
+
+-- 3. The stage: the resolved records of a unit, whatever room is lent
+
+unfoldable pub stage : (s : List ℕ) → Result (List Instr)
+stage s = onward (labelled s) λ l. resolveRecords (l .marks) 0 0 (l .instrs)
+
+-- 4. What the program prints of a record: "start, tag, small, first and second (signed), line, flags, value"
+
+pub record Line : Type 0 where
+  pub start : ℕ
+  pub tag : ℕ
+  pub small : ℕ
+  pub first : ℤ
+  pub second : ℤ
+  pub line : ℕ
+  pub flags : ℕ
+  pub value : ℕ
+
+-- the lines of records from offset `start` on, with `sign` for the labels or distances
+unfoldable pub linesFrom : (sign : ℕ → ℤ) (start : ℕ) → List Instr → List Line
+linesFrom sign start [] = []
+linesFrom sign start (i ∷ is) =
+    record { start = start; tag = i .tag; small = i .small; first = sign (i .first); second = sign (i .second); line = i .line; flags = i .flags; value = i .value }
+    ∷ linesFrom sign (start + size i) is
+
+-- "`code`, instruction count, total size"
+unfoldable pub totalSize : List Instr → ℕ
+totalSize [] = 0
+totalSize (i ∷ is) = size i + totalSize is
+
+pub data Printed : Type 0 where
+  code : (count total : ℕ) → List Line → Printed
+  refusedWith : (number place extra : ℕ) → Printed
+
+unfoldable pub printed : Result (List Instr) → Printed
+printed (made is) = code (length is) (totalSize is) (linesFrom signed 0 is)
+printed (refusal n p x) = refusedWith n p x
