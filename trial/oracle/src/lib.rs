@@ -1,0 +1,9 @@
+//! Runs the published assembler on units, and makes units to run it on.
+
+pub mod answer;
+pub mod cases;
+pub mod generate;
+pub mod program;
+pub mod random;
+pub mod reader;
+pub mod record;

@@ -1,0 +1,1 @@
+../../../../redscript/ir/intrinsic.rs

@@ -1,0 +1,2 @@
+/// Named by `ir.rs`; nothing visits the tree.
+pub trait Visitor {}

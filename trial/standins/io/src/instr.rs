@@ -1,0 +1,1 @@
+../../../redscript/instr.rs
