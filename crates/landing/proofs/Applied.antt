@@ -1,0 +1,97 @@
+-- The theorem applied: to document 01's example (a), and to a switch with a mid default in a loop. The statement is not empty, and these are its numbers.
+use Prim.Native.Nat.{ℕ, zero, suc, _+_}
+use mathlib.Core.Path.{_≡_, refl, _∙_}
+use mathlib.Core.List.{List, [], _∷_}
+use lib.IntN.{ℤ, pos, negsuc}
+use Rattle.definitions.specs.Answer.{ok, made, bind}
+use Rattle.definitions.specs.Bytes.{number, bytes}
+use Rattle.definitions.specs.Tag
+use Rattle.definitions.specs.Tag.{sizes, tagSize, rows, rowOf, constTags, constTag, constWidths}
+use Rattle.definitions.specs.Instr.{Instr, plain}
+use Rattle.definitions.specs.Tree.{Script, nop, const, expr, while, switch, break, continue, bnil, bcons, cnil, ccons, present, exprs, block, casesOf, lengthC, isPresent}
+use Rattle.definitions.specs.Read.{_>>=_, give, unsigned, small, room, span, items, filling, run, head, ended, node, pick, asNop, payload, asConst, exprKinds, exprBody, parseExpr, asExpr, asWhile, arm, blockIf, asSwitch, asBreak, asContinue, stmtKinds, stmtBody, parseStmt, frontGood, parseUnit}
+use Rattle.definitions.specs.Code.{State, going, many, andThen, unmarked, labelLimit, step, execute}
+use Rattle.definitions.specs.Lower.{lowerExpr, jumpTo, midDefault, lowerStmt, lower}
+use Rattle.definitions.specs.Resolve.{inRange, word, resolveRecords}
+use Rattle.landing.specs.Distance.{back, sizeE, sizeS, distE, toDefault, distM, distS, distancesOf}
+use Rattle.landing.specs.Landed.{left, filledField, filled, orElse, farField, firstFar, unlessFar, withDistances, Landed}
+use Rattle.landing.proofs.Theorem.{landing}
+
+abbrev jump : (tag first second value : ℕ) → Instr
+jump t f s v = record { tag = t; small = 0; first = f; second = s; line = 0; flags = 0; value = v }
+
+-- 1. while (false) { break }
+
+abbrev script-a : Script
+script-a = record { returns = 0; body = bcons (while 10 (const 15 15 0) (bcons (break 26) bnil)) bnil }
+
+-- JumpIfFalse, FalseConst, Jump, Jump; label 0 is marked 0, label 1 is marked 10
+abbrev listing-a : State
+listing-a = record {
+  offset = 10;
+  instrs = jump Tag.JumpIfFalse 1 0 0 ∷ plain Tag.FalseConst 0 0 ∷ jump Tag.Jump 1 0 0 ∷ jump Tag.Jump 0 0 0 ∷ [];
+  marks = 0 ∷ 10 ∷ [];
+}
+
+reads-a : parseUnit (bytes 31 0x010000001A0000000015000000110300000003020F00000000050000000108) ≡ ok script-a 31
+unfolding parseUnit frontGood run unsigned small number bytes room span items filling head node exprBody exprKinds parseExpr stmtKinds parseStmt stmtBody pick ended bind give _>>=_ payload asConst constWidths asWhile asBreak exprs block
+reads-a = refl
+
+lowers-a : lower script-a ≡ going listing-a
+unfolding execute step andThen unmarked labelLimit lowerExpr lowerStmt jumpTo constTag rowOf rows tagSize sizes
+lowers-a = refl
+
+landed-a : Landed script-a listing-a
+landed-a = landing (bytes 31 0x010000001A0000000015000000110300000003020F00000000050000000108) script-a 31 reads-a listing-a lowers-a
+
+-- 10, 6 and -7
+distances-a : distancesOf script-a ≡ pos 10 ∷ pos 6 ∷ negsuc 6 ∷ []
+unfolding distS sizeS sizeE distE back tagSize sizes constTag
+distances-a = refl
+
+pub resolved-a : resolveRecords (0 ∷ 10 ∷ []) 0 0 (listing-a .instrs) ≡
+    made (jump Tag.JumpIfFalse 10 0 0 ∷ plain Tag.FalseConst 0 0 ∷ jump Tag.Jump 6 0 0 ∷ jump Tag.Jump 65529 0 0 ∷ [])
+unfolding withDistances firstFar filled left filledField farField orElse unlessFar inRange word distS sizeS sizeE distE back tagSize sizes constTag rowOf rows
+resolved-a = landed-a .resolves
+
+-- 2. while (nop) { switch (nop) { case nop: break; default: nop; case nop: continue } }, the default before case 1
+
+abbrev script-mid : Script
+script-mid = record {
+  returns = 0;
+  body = bcons (while 10 (nop 15) (bcons (switch 24 9 (nop 33) 1 (ccons (nop 47) (bcons (break 56) bnil) (ccons (nop 61) (bcons (continue 70) bnil) cnil)) (present (bcons (expr 79 (nop 84)) bnil))) bnil)) bnil;
+}
+
+abbrev listing-mid : State
+listing-mid = record {
+  offset = 42;
+  instrs =
+      jump Tag.JumpIfFalse 1 0 0 ∷ plain Tag.Nop 0 0 ∷ jump Tag.Switch 3 0 9 ∷ plain Tag.Nop 0 0 ∷ jump Tag.SwitchLabel 7 4 0 ∷ plain Tag.Nop 0 0 ∷ jump Tag.SwitchLabel 8 5 0 ∷ plain Tag.Nop 0 0
+      ∷ plain Tag.SwitchDefault 0 0 ∷ jump Tag.Jump 6 0 0 ∷ jump Tag.Jump 2 0 0 ∷ plain Tag.Nop 0 0 ∷ jump Tag.Jump 0 0 0 ∷ jump Tag.Jump 0 0 0 ∷ [];
+  marks = 0 ∷ 42 ∷ 39 ∷ 16 ∷ 32 ∷ 36 ∷ 35 ∷ 22 ∷ 28 ∷ [];
+}
+
+abbrev unit-mid : List ℕ
+unit-mid = bytes 89 0x0100000054000000004F0000004B030000000101000000410000003D0500000009000000010100000001010000001C000000010100000005000000010800000001010000000500000001090000000A00000006010000000101
+
+reads-mid : parseUnit unit-mid ≡ ok script-mid 89
+unfolding parseUnit frontGood run unsigned small number bytes room span items filling head node exprBody exprKinds parseExpr stmtKinds parseStmt stmtBody pick ended bind give _>>=_ asNop asExpr asWhile arm blockIf asSwitch asBreak asContinue exprs block casesOf
+reads-mid = refl
+
+lowers-mid : lower script-mid ≡ going listing-mid
+unfolding execute step andThen many unmarked labelLimit lowerExpr lowerStmt jumpTo midDefault isPresent lengthC rowOf rows tagSize sizes
+lowers-mid = refl
+
+landed-mid : Landed script-mid listing-mid
+landed-mid = landing unit-mid script-mid 89 reads-mid listing-mid lowers-mid
+
+-- loop; switch; two SwitchLabels, each next and body; the Jump after SwitchDefault; break; continue; closing Jump
+pub distances-mid : distancesOf script-mid ≡ pos 42 ∷ pos 12 ∷ pos 6 ∷ pos 16 ∷ pos 6 ∷ pos 14 ∷ pos 6 ∷ pos 7 ∷ negsuc 35 ∷ negsuc 38 ∷ []
+unfolding distS distM toDefault sizeS sizeE distE back tagSize sizes midDefault isPresent lengthC
+distances-mid = refl
+
+pub resolved-mid : resolveRecords (listing-mid .marks) 0 0 (listing-mid .instrs) ≡
+    made (jump Tag.JumpIfFalse 42 0 0 ∷ plain Tag.Nop 0 0 ∷ jump Tag.Switch 12 0 9 ∷ plain Tag.Nop 0 0 ∷ jump Tag.SwitchLabel 6 16 0 ∷ plain Tag.Nop 0 0 ∷ jump Tag.SwitchLabel 6 14 0 ∷ plain Tag.Nop 0 0
+    ∷ plain Tag.SwitchDefault 0 0 ∷ jump Tag.Jump 6 0 0 ∷ jump Tag.Jump 7 0 0 ∷ plain Tag.Nop 0 0 ∷ jump Tag.Jump 65500 0 0 ∷ jump Tag.Jump 65497 0 0 ∷ [])
+unfolding withDistances firstFar filled left filledField farField orElse unlessFar inRange word distS distM toDefault sizeS sizeE distE back tagSize sizes midDefault isPresent lengthC rowOf rows
+resolved-mid = landed-mid .resolves

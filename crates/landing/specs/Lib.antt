@@ -1,0 +1,3 @@
+-- The landing table, and what the landing theorem says.
+pub mod Distance
+pub mod Landed
