@@ -105,9 +105,16 @@ nopNodes n = times n (nodeOf 1 [])
 asRefNode : (short : ℕ) → List ℕ
 asRefNode m = nodeOf 12 (28 ∷ m ∷ 1 ∷ (bytes 4 7 ++ runOf (nopNodes 1)))
 
--- a free call with so many parameters
+-- function 1, name 2, line 3, so many parameters and these arguments; a free call
+callOf : (params : ℕ) → List ℕ → List ℕ
+callOf n args = bytes 4 1 ++ (bytes 4 2 ++ (bytes 2 3 ++ (0 ∷ n ∷ (times n (0 ∷ []) ++ runOf args))))
+
 freeCallOf : (params : ℕ) → List ℕ → List ℕ
-freeCallOf n args = nodeOf 13 (bytes 4 1 ++ (bytes 4 2 ++ (bytes 2 3 ++ (0 ∷ n ∷ (times n (0 ∷ []) ++ runOf args)))))
+freeCallOf n args = nodeOf 13 (callOf n args)
+
+-- an instance call with so many parameters
+instanceCallOf : (params : ℕ) → (receiver args : List ℕ) → List ℕ
+instanceCallOf n e args = nodeOf 15 (0 ∷ (e ++ callOf n args))
 
 -- the heads of so many blocks one in another, around k bytes
 nestBlocks : (n k : ℕ) → List ℕ
@@ -178,6 +185,9 @@ table =
     -- no case and a default: Switch lands on SwitchDefault
     ∷ row (stageOf (bytes 42 0x010000002500000000200000001C05000000090000000101000000000100000000000000050000000108)) (prints 4 16 (
     first 0 Switch (on 12) 9 ∷ values 11 Nop 0 0 ∷ values 12 SwitchDefault 0 0 ∷ first 13 Jump (on 3) 0 ∷ []))
+    -- default_index is ignored without a default
+    ∷ row (stageOf (bytes 47 0x010000002A0000000025000000210500000009000000010100000005000000000E0000000101000000050000000108)) (prints 5 21 (
+    first 0 Switch (on 12) 9 ∷ values 11 Nop 0 0 ∷ both 12 SwitchLabel (on 9) (on 6) ∷ values 17 Nop 0 0 ∷ first 18 Jump (on 3) 0 ∷ []))
     -- other statements
     -- Branches: JumpIfFalse past its Jump, Jump past the statement; the last next is unmarked
     ∷ row (labelledOf (bytes 57 0x0100000034000000002F0000002B030000000101000000210000001D040000000E000000010100000005000000010901000000050000000108)) (labels 8 20 (0 ∷ 20 ∷ 14 ∷ 17 ∷ unmarked ∷ []) (
@@ -284,6 +294,14 @@ table =
     ∷ row (stageOf (bytes 36 0x010000001F000000001A0000001601000000110C20000100000007000000050000000101)) (refuses 14 15 0)
     -- and with one too few
     ∷ row (stageOf (bytes 36 0x010000001F000000001A0000001601000000110C1C000000000007000000050000000101)) (refuses 14 15 0)
+    -- with a mid default all matchers come before all blocks: the second matcher's 14 is met before the first block's 11
+    ∷ row (stageOf (bytes 71 0x0100000042000000003D000000390500000009000000010100000000010000002200000001010000000500000001090000000C0C20000100000007000000000000000000000000)) (refuses 14 47 0)
+    -- and the default block before case default_index: of two continues, the one in the default is met first
+    ∷ row (stageOf (bytes 65 0x010000003C000000003700000033050000000900000001010000000101000000170000000101000000000000000101000000050000000109000000050000000109)) (refuses 11 60 0)
+    -- 14 comes before the arguments
+    ∷ row (stageOf (bytes 47 0x010000002A000000002500000021010000001C0C20000100000007000000100000000C0C2000010000000700000000)) (refuses 14 15 0)
+    -- an instance call's receiver comes before its flags: 14 of the receiver, not 13
+    ∷ row (stageOf (unitOf (expression (instanceCallOf 17 (bytes 16 0x0000000C0C2000010000000700000000) (times 17 (asRefNode 0)))))) (refuses 14 21 0)
     -- reading refuses: 1, the front
     -- under 6 bytes
     ∷ row (stageOf (bytes 5 0x0100000000)) (refuses 1 0 0)
@@ -318,6 +336,8 @@ table =
     ∷ row (stageOf (bytes 34 0x010000001D000000001800000014010000000F0D0000000100000002000100030001)) (refuses 3 15 0)
     -- a constant cut short
     ∷ row (stageOf (bytes 24 0x0100000013000000000E0000000A01000000050209000000)) (refuses 3 15 0)
+    -- a condition that runs past its While: the holder is the While, and the place is the condition's
+    ∷ row (stageOf (bytes 25 0x0100000014000000000F000000060300000002010000000108)) (refuses 3 15 0)
     -- 2, values that are not listed
     -- statement kind 0
     ∷ row (stageOf (bytes 15 0x010000000A00000000050000000100)) (refuses 2 10 0)
@@ -395,5 +415,5 @@ table =
 -- 4. The theorem: every question of the table has the reply that stands beside it
 
 pub examples : map (λ r. answer (r .question)) table ≡ map (λ r. r .reply) table
-unfolding table answer replyOf replyPrinted runOf nodeOf unitOf expression times nopNodes asRefNode freeCallOf nestBlocks listingOf bind onward checked number bytes sizes tagSize emitted rows rowOf defaultTags constTags constTag constWidths intrinsics intrinsicOf recordBytes recordAt unused0 goodRecord exprs block branchesOf casesOf lengthE lengthC isPresent placeOf _>>=_ give refuse unsigned small marks room span items filling run head ended node pick asNop payload asConst asNull asNewInstance asConstruct asAssign asField asIndex asConditional asDynCast asLocal asIntrinsic callee arguments asFreeCall asStaticCall asInstanceCall asClosureCall exprKinds exprBody parseExpr asExpr asNest asWhile arm blockIf asBranches asSwitch asInitArray asInitDefault asBreak asContinue returnIf asReturn stmtKinds stmtBody parseStmt frontGood parseUnit many emits andThen unmarked labelLimit step execute require isPrvalue onePrvalue isFlagged flagsOf requireFlags weakToRef nullTag elementTag localTag lowerField lowerArg nops emitInvoke emitCall lowerExpr lowerElements lowerArray primitiveDefault defaultInstrs lowerReturn lowerReturnNothing jumpTo midDefault endsGroup inGroup lowerStmt recordsBytes listingBytes countOf listingFront recordsFrom allGood readListing view inRange word signed distanceOf resolveField resolveRecord resolveRecords resolve walked lowered lowerInto stage linesFrom totalSize printed
+unfolding table answer replyOf replyPrinted runOf nodeOf unitOf expression times nopNodes asRefNode callOf freeCallOf instanceCallOf nestBlocks listingOf bind onward checked number bytes sizes tagSize emitted rows rowOf defaultTags constTags constTag constWidths intrinsics intrinsicOf recordBytes recordAt unused0 goodRecord exprs block branchesOf casesOf lengthE lengthC isPresent placeOf _>>=_ give refuse unsigned small marks room span items filling run head ended node pick asNop payload asConst asNull asNewInstance asConstruct asAssign asField asIndex asConditional asDynCast asLocal asIntrinsic callee arguments asFreeCall asStaticCall asInstanceCall asClosureCall exprKinds exprBody parseExpr asExpr asNest asWhile arm blockIf asBranches asSwitch asInitArray asInitDefault asBreak asContinue returnIf asReturn stmtKinds stmtBody parseStmt frontGood parseUnit many emits andThen unmarked labelLimit step execute require isPrvalue onePrvalue isFlagged flagsOf requireFlags weakToRef nullTag elementTag localTag lowerField lowerArg nops emitInvoke emitCall lowerExpr lowerElements lowerArray primitiveDefault defaultInstrs lowerReturn lowerReturnNothing jumpTo midDefault endsGroup inGroup lowerStmt recordsBytes listingBytes countOf listingFront recordsFrom allGood readListing view inRange word signed distanceOf resolveField resolveRecord resolveRecords resolve walked lowered lowerInto stage linesFrom totalSize printed
 examples = refl
