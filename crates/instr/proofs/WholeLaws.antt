@@ -1,0 +1,79 @@
+-- Whole listings: what a caller learns from a check that passed, and that a listing as it is written is read again.
+use Prim.Native.Nat.{ℕ, suc, _+_, _-_, _*_, _/_, _%_, _≤_}
+use mathlib.Core.Path.{_≡_, refl, ap, sym, _∙_}
+use mathlib.Core.Bool.{Bool, true, false, _&&_}
+use mathlib.Core.List.{List, [], _∷_, _++_, append-assoc}
+use native.Mathlib.Omega.{arith}
+use native.Mathlib.Nat.{div-eq-of-eq-mul-right}
+use lib.Dec.{lit<}
+use lib.ListN.{length, length-append}
+use Rattle.definitions.specs.Answer.{made, checked}
+use Rattle.definitions.specs.Bytes.{number, bytes}
+use Rattle.definitions.specs.Instr.{Instr, recordLength, recordBytes}
+use Rattle.definitions.specs.Listing.{frontLength, listingLength, listingFront, countOf, recordsFrom, recordsOf, allGood, readListing, recordsBytes, listingBytes}
+use Rattle.instr.specs.declared.listings.Checked.the-variants.{Good}
+use Rattle.instr.specs.Values.{checkedIs, counted, AllWithin}
+use Rattle.instr.proofs.NumberLaws.{length-bytes, read-back}
+use Rattle.instr.proofs.RecordLaws.{write-then-read}
+use Rattle.instr.proofs.ListingLaws.{and-true, whole, length-records, front-good, front-is-good}
+
+-- 1. A check that passed
+
+passed : (b : Bool) (is : List Instr) (n : ℕ) → made n ≡ counted (checked b 30 0 0 (made is)) → (b ≡ true) × (n ≡ length is)
+unfolding counted checked
+passed true is n e = (refl, cc)
+passed false is n e = let z : _≡_ {A = ℕ} 0 1 = cc in absurd (omega arith)
+
+pub record Accepted (s : List ℕ) (n : ℕ) : Type 0 where
+  pub reads : readListing s ≡ made (recordsOf s)
+  pub count : n ≡ countOf s
+  pub fills : listingLength n ≡ length s
+  pub good : allGood (recordsOf s) ≡ true
+
+pub accepted : (s : List ℕ) (n : ℕ) → checkedIs (Good n) ≡ counted (readListing s) → Accepted s n
+unfolding checkedIs readListing checked
+accepted s n e =
+    let q = passed (listingFront s && allGood (recordsOf s)) (recordsOf s) n e in
+    let b = and-true (listingFront s) (allGood (recordsOf s)) (q .0) in
+    let m : n ≡ countOf s = q .1 ∙ length-records (countOf s) s frontLength in
+    record { reads = rw (b .0, b .1); count = m; fills = rw m (whole s (b .0)); good = b .1 }
+
+-- 2. Written, then read
+
+length-record : (i : Instr) → length (recordBytes i) ≡ recordLength
+unfolding recordBytes bytes
+length-record i = refl
+
+length-records-bytes : (is : List Instr) → length (recordsBytes is) ≡ recordLength * length is
+unfolding recordsBytes
+length-records-bytes [] = refl
+length-records-bytes (i ∷ is) = rw (length-append (recordBytes i) (recordsBytes is), length-record i, length-records-bytes is) (omega arith)
+
+records-back : (is : List Instr) → AllWithin is → (p : List ℕ) → recordsFrom (length is) (p ++ recordsBytes is) (length p) ≡ is
+unfolding recordsFrom recordsBytes
+records-back [] h p = refl
+records-back (i ∷ is) h p =
+    let l : length (p ++ recordBytes i) ≡ length p + recordLength = rw (length-append p (recordBytes i), length-record i) in
+    let t : recordsFrom (length is) (p ++ (recordBytes i ++ recordsBytes is)) (length p + recordLength) ≡ is =
+    rw (← append-assoc p (recordBytes i) (recordsBytes is), ← l) (records-back is (h .1) (p ++ recordBytes i)) in
+    rw (write-then-read i (h .0) p (recordsBytes is), t)
+
+count-is : (s : List ℕ) (n : ℕ) → (length s - frontLength) / recordLength ≡ n → countOf s ≡ n
+unfolding countOf
+count-is s n e = e
+
+-- a listing as it is written passes the check, and its records are those that were written
+pub written-is-read : (is : List Instr) → AllWithin is → allGood is ≡ true → length is ≤ 1048576 → readListing (listingBytes is) ≡ made is
+unfolding readListing checked listingBytes
+written-is-read is h g m =
+    let w = recordLength * length is in
+    let r = recordsBytes is in
+    let s : List ℕ = 1 ∷ (bytes 4 w ++ r) in
+    let f : length {A = ℕ} (1 ∷ bytes 4 w) ≡ frontLength = ap suc (length-bytes 4 w) in
+    let l : length s ≡ frontLength + w = omega (arith, length-append (bytes 4 w) r, length-bytes 4 w, length-records-bytes is) in
+    let n : number 4 s 1 ≡ w = read-back 4 w (1 ∷ []) r (omega arith) in
+    let k : (length s - frontLength) / recordLength ≡ length is = div-eq-of-eq-mul-right {n = recordLength} (lit< tt) (omega arith) in
+    let d : (length s - frontLength) % recordLength ≡ 0 = omega arith in
+    let a : recordsFrom (length is) s frontLength ≡ is = rw f at (records-back is h (1 ∷ bytes 4 w)) in
+    let t : listingFront s ≡ true = front-is-good s ((length s - frontLength) / recordLength) (front-good s w (omega arith) refl (sym n) (omega arith) d (omega arith)) .0 in
+    rw (t, count-is s (length is) k, a, g)
