@@ -57,12 +57,18 @@ fn medium(random: &mut Random) -> Vec<u8> {
     }
 }
 
-/// A random tree of about `room` bytes, in one of four cases with something wrong in it.
+/// A random tree of about `room` bytes, in one of four cases with something wrong in it; one of ten is a loop around a switch.
 fn tree(random: &mut Random, room: usize) -> Vec<u8> {
     let wrong = match random.once_in(4) {
         true => Some(random.pick(&[Wrong::Jump, Wrong::Intrinsic, Wrong::ExtraArguments])),
         false => None,
     };
     let returns = random.once_in(2);
-    unit(returns, &Maker::new(random, room, wrong).body())
+    let is_loop = random.once_in(10);
+    let mut maker = Maker::new(random, room, wrong);
+    let body = match is_loop {
+        true => maker.switch_in_loop(),
+        false => maker.body(),
+    };
+    unit(returns, &body)
 }

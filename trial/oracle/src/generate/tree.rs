@@ -64,6 +64,14 @@ impl<'a> Maker<'a> {
         counted(&stmts)
     }
 
+    /// A block that is one loop around one switch, with little but breaks and continues in its cases.
+    pub fn switch_in_loop(&mut self) -> Vec<u8> {
+        let condition = self.expr();
+        self.room = 0;
+        let switch = self.switch(LOOP);
+        counted(&stmt::while_(&condition, &switch))
+    }
+
     fn goes_wrong(&mut self, wrong: Wrong) -> bool {
         self.wrong == Some(wrong) && self.random.once_in(2)
     }
