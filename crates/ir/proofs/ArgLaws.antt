@@ -1,0 +1,351 @@
+-- What the head of an argument says of the expression that is read there. Assumes nothing.
+use Prim.Native.Nat.{ℕ, zero, suc, _+_, _-_, _≤_, _<_}
+use mathlib.Core.Path.{_≡_, refl, sym, ap, _∙_}
+use mathlib.Core.List.{List, [], _∷_}
+use mathlib.Core.Logic.{⊎-elim}
+use mathlib.Core.Bool.{Bool, true, false, not, _||_}
+use native.Mathlib.Omega.{arith}
+use native.Mathlib.Nat.{zero-add, add-zero}
+use lib.Dec.{eqb}
+use lib.ListN.{length, getD}
+use borrow.Author.Tests.{eq-eqb, ne-eqb, eqb-true, eqb-false}
+use denote.Enum.Declared.{tagOf}
+use types.Run.{OneOf}
+use Rattle.ir.proofs.Arg.{the-type as arg-type}
+use Rattle.definitions.specs.Answer.{ok}
+use Rattle.definitions.specs.Bytes.{number}
+use Rattle.definitions.specs.Tree.{Expr, intrinsic, exprs}
+use Rattle.definitions.specs.Lower.{isPrvalue, onePrvalue, isFlagged}
+use Rattle.definitions.specs.Read.{Parser, _>>=_, give, refuse, pick, filling, asNop, asConst, asNull, asNewInstance, asConstruct, asAssign, asConditional, asDynCast, asFreeCall, asStaticCall, asInstanceCall, asClosureCall, exprKinds, exprBody, parseExpr}
+use Rattle.ir.specs.Places.{endOf}
+use Rattle.ir.specs.Args.{Readable, Tells, intrinsicAt, placeKind, argAt, notPlace}
+use Rattle.ir.specs.declared.Arg.{Arg}
+use Rattle.ir.specs.declared.Arg.the-variants.{AsRef, Place, Value}
+use Rattle.ir.proofs.Inversion.{never, bind-ok, give-ok, expr-ok, expr-at, expr-moves, fill-some, fill-none}
+use Rattle.ir.proofs.ExprPlaces.{field-at, index-at, local-at, intrinsic-at}
+
+-- 1. The kinds whose head says nothing
+
+-- every value that a parser gives
+abbrev Always : {A : Type 0} → (A → Type 0) → Parser A → Type 0
+Always {A} P p = (m : ℕ) (a : A) (n : ℕ) → p m ≡ ok a n → P a
+
+after-step : {A B : Type 0} (P : B → Type 0) (p : Parser A) (f : A → Parser B) → ((a : A) → Always P (f a)) → Always P (p >>= f)
+unfolding _>>=_
+after-step P p f h m b n e = let k = bind-ok (p m) f e in h (k .0) (k .1) b n (k .3)
+
+at-last : {A : Type 0} (P : A → Type 0) (a : A) → P a → Always P (give a)
+at-last P a x m b n e = let g = give-ok a m e in rw (g .0) x
+
+abbrev Each : (ℕ → Expr → Type 0) → List (Parser Expr) → ℕ → Type 0
+Each P [] b = Unit {0}
+Each P (p ∷ ps) b = Always (P b) p × Each P ps (suc b)
+
+pick-each : (P : ℕ → Expr → Type 0) (ps : List (Parser Expr)) (b at k m : ℕ) (e : Expr) (n : ℕ) → Each P ps b → pick ps at k m ≡ ok e n → P (b + k) e
+unfolding pick refuse
+pick-each P [] b at k m e n h r = never r
+pick-each P (p ∷ ps) b at zero m e n h r = rw (add-zero b) (h .0 m e n r)
+pick-each P (p ∷ ps) b at (suc k) m e n h r =
+    let s : suc b + k ≡ b + suc k = omega arith in
+    rw s at (pick-each P ps (suc b) at k m e n (h .1) r)
+
+-- neither a place nor flagged
+abbrev Plain : Expr → Type 0
+Plain e = (isPrvalue e ≡ true) × (isFlagged e ≡ false)
+
+abbrev PlainBut : ℕ → Expr → Type 0
+PlainBut k e = (k ≡ 7 → ⊥) → (k ≡ 8 → ⊥) → (k ≡ 11 → ⊥) → (k ≡ 12 → ⊥) → Plain e
+
+each-kind : (s : List ℕ) (child : ℕ → Parser Expr) (at end : ℕ) → Each PlainBut (exprKinds s child at end) 0
+unfolding exprKinds refuse asNop asConst asNull asNewInstance asConstruct asAssign asConditional asDynCast asFreeCall asStaticCall asInstanceCall asClosureCall isPrvalue isFlagged
+each-kind s child at end = (
+  λ m a n e. never e,
+  (
+    at-last (PlainBut 1) _ (λ _ _ _ _. (refl, refl)),
+    (
+      after-step (PlainBut 2) _ _ (λ _. after-step (PlainBut 2) _ _ (λ _. at-last (PlainBut 2) _ (λ _ _ _ _. (refl, refl)))),
+      (
+        after-step (PlainBut 3) _ _ (λ _. at-last (PlainBut 3) _ (λ _ _ _ _. (refl, refl))),
+        (
+          after-step (PlainBut 4) _ _ (λ _. at-last (PlainBut 4) _ (λ _ _ _ _. (refl, refl))),
+          (
+            after-step (PlainBut 5) _ _ (λ _. after-step (PlainBut 5) _ _ (λ _. at-last (PlainBut 5) _ (λ _ _ _ _. (refl, refl)))),
+            (
+              after-step (PlainBut 6) _ _ (λ _. after-step (PlainBut 6) _ _ (λ _. at-last (PlainBut 6) _ (λ _ _ _ _. (refl, refl)))),
+              (
+                (λ m a n e z _ _ _. absurd (z refl)),
+                (
+                  (λ m a n e _ z _ _. absurd (z refl)),
+                  (
+                    after-step (PlainBut 9) _ _ (λ _. after-step (PlainBut 9) _ _ (λ _. after-step (PlainBut 9) _ _ (λ _. at-last (PlainBut 9) _ (λ _ _ _ _. (refl, refl))))),
+                    (
+                      after-step (PlainBut 10) _ _ (λ _. after-step (PlainBut 10) _ _ (λ _. after-step (PlainBut 10) _ _ (λ _. at-last (PlainBut 10) _ (λ _ _ _ _. (refl, refl))))),
+                      (
+                        (λ m a n e _ _ z _. absurd (z refl)),
+                        (
+                          (λ m a n e _ _ _ z. absurd (z refl)),
+                          (
+                            after-step (PlainBut 13) _ _ (λ _. after-step (PlainBut 13) _ _ (λ _. at-last (PlainBut 13) _ (λ _ _ _ _. (refl, refl)))),
+                            (
+                              after-step (PlainBut 14) _ _ (λ _. after-step (PlainBut 14) _ _ (λ _. at-last (PlainBut 14) _ (λ _ _ _ _. (refl, refl)))),
+                              (
+                                after-step (PlainBut 15) _ _ (λ _. after-step (PlainBut 15) _ _ (λ _. after-step (PlainBut 15) _ _ (λ _. after-step (PlainBut 15) _ _ (λ _. at-last (PlainBut 15) _ (λ _ _ _ _. (refl, refl)))))),
+                                (
+                                  after-step (PlainBut 16) _ _ (λ _. after-step (PlainBut 16) _ _ (λ _. after-step (PlainBut 16) _ _ (λ _. after-step (PlainBut 16) _ _ (λ _. at-last (PlainBut 16) _ (λ _ _ _ _. (refl, refl)))))),
+                                  tt,
+                                ),
+                              ),
+                            ),
+                          ),
+                        ),
+                      ),
+                    ),
+                  ),
+                ),
+              ),
+            ),
+          ),
+        ),
+      ),
+    ),
+  ),
+)
+
+-- 2. An expression that is read, by its head
+
+abbrev isAsRef : Arg → Bool
+isAsRef (AsRef first stop) = true
+isAsRef Place = false
+isAsRef Value = false
+
+same-run : (p : ℕ → Parser Expr) (xs : List Expr) (n t g f : ℕ) → n ≡ t → g ≡ f → filling p n g ≡ ok xs n → filling p t f ≡ ok xs t
+same-run p xs n t g f h j e = rw (h, j) at e
+
+-- an AsRef call's arguments, from `first` up to `stop`
+record AsRefOf (d : ℕ) (s : List ℕ) (holder : ℕ) (e : Expr) (first stop : ℕ) : Type 0 where
+  args : List Expr
+  flagged : isFlagged e ≡ onePrvalue (exprs args)
+  reads : filling (parseExpr d s) stop first ≡ ok args stop
+  tail : stop ≤ holder
+
+module _ (s : List ℕ) (at depth holder next : ℕ) (e : Expr) (r : parseExpr depth s holder at ≡ ok e next) where
+  plain : PlainBut (getD s (at + 4) 0) e
+  unfolding exprBody
+  plain =
+      let i = expr-ok depth s holder at r in
+      rw (zero-add (getD s (at + 4) 0)) at (pick-each PlainBut (exprKinds s (parseExpr (depth - 1) s) at (endOf s at)) 0 at (getD s (at + 4) 0) (at + 5) e (endOf s at) (each-kind s (parseExpr (depth - 1) s) at (endOf s at)) (i .1 .reads))
+
+  is-12 : getD s (at + 4) 0 ≡ 12 → (isPrvalue e ≡ not (eqb (getD s (at + 5) 0) 29)) × ((eqb (getD s (at + 5) 0) 28 ≡ false) → isFlagged e ≡ false)
+  unfolding isPrvalue isFlagged
+  is-12 k = let i = intrinsic-at depth s holder at e next r k in (rw (i .tree), λ h. rw (i .tree, h))
+
+  is-place : placeKind (getD s (at + 4) 0) ≡ true → (isPrvalue e ≡ false) × (isFlagged e ≡ false)
+  unfolding placeKind isPrvalue isFlagged
+  is-place h = go (eqb (getD s (at + 4) 0) 7) (eqb (getD s (at + 4) 0) 8) (eqb (getD s (at + 4) 0) 11) refl refl refl h
+    where
+      go : (a b c : Bool) → a ≡ eqb (getD s (at + 4) 0) 7 → b ≡ eqb (getD s (at + 4) 0) 8 → c ≡ eqb (getD s (at + 4) 0) 11 → a || b || c ≡ true → (isPrvalue e ≡ false) × (isFlagged e ≡ false)
+      go true b c ea eb ec h = let i = field-at depth s holder at e next r (eqb-true (getD s (at + 4) 0) 7 (sym ea)) in (rw (i .tree), rw (i .tree))
+      go false true c ea eb ec h = let i = index-at depth s holder at e next r (eqb-true (getD s (at + 4) 0) 8 (sym eb)) in (rw (i .tree), rw (i .tree))
+      go false false true ea eb ec h = let i = local-at depth s holder at e next r (eqb-true (getD s (at + 4) 0) 11 (sym ec)) in (rw (i .tree), rw (i .tree))
+      go false false false ea eb ec h = let z : _≡_ {A = ℕ} 0 1 = cc in absurd (omega arith)
+
+  not-place : placeKind (getD s (at + 4) 0) ≡ false → (getD s (at + 4) 0 ≡ 12 → ⊥) → Plain e
+  unfolding placeKind
+  not-place h = go (eqb (getD s (at + 4) 0) 7) (eqb (getD s (at + 4) 0) 8) (eqb (getD s (at + 4) 0) 11) refl refl refl h
+    where
+      go : (a b c : Bool) → a ≡ eqb (getD s (at + 4) 0) 7 → b ≡ eqb (getD s (at + 4) 0) 8 → c ≡ eqb (getD s (at + 4) 0) 11 → a || b || c ≡ false → (getD s (at + 4) 0 ≡ 12 → ⊥) → Plain e
+      go true b c ea eb ec h z = let y : _≡_ {A = ℕ} 0 1 = cc in absurd (omega arith)
+      go false true c ea eb ec h z = let y : _≡_ {A = ℕ} 0 1 = cc in absurd (omega arith)
+      go false false true ea eb ec h z = let y : _≡_ {A = ℕ} 0 1 = cc in absurd (omega arith)
+      go false false false ea eb ec h z =
+          plain (eqb-false (getD s (at + 4) 0) 7 (sym ea)) (eqb-false (getD s (at + 4) 0) 8 (sym eb)) (eqb-false (getD s (at + 4) 0) 11 (sym ec)) z
+
+  -- the head says whether it is a prvalue, and that it is not flagged unless it is an AsRef call
+  by-code : (a b : Bool) → a ≡ eqb (getD s (at + 5) 0) 28 → b ≡ eqb (getD s (at + 5) 0) 29
+      → notPlace (elim a as (λ _. Arg) [ true ↦ AsRef (at + 16) (endOf s (at + 12)) | false ↦ elim b as (λ _. Arg) [ true ↦ Place | false ↦ Value ] ]) ≡ not (eqb (getD s (at + 5) 0) 29)
+  unfolding notPlace
+  by-code true b ea eb = let h : getD s (at + 5) 0 ≡ 28 = eqb-true (getD s (at + 5) 0) 28 (sym ea) in rw h
+  by-code false true ea eb = rw (← eb)
+  by-code false false ea eb = rw (← eb)
+
+  by-kind : (a b : Bool) → a ≡ eqb (getD s (at + 4) 0) 12 → b ≡ placeKind (getD s (at + 4) 0)
+      → notPlace (elim a as (λ _. Arg) [ true ↦ intrinsicAt s at | false ↦ elim b as (λ _. Arg) [ true ↦ Place | false ↦ Value ] ]) ≡ isPrvalue e
+  unfolding notPlace intrinsicAt
+  by-kind true b ea eb = by-code _ _ refl refl ∙ sym (is-12 (eqb-true (getD s (at + 4) 0) 12 (sym ea)) .0)
+  by-kind false true ea eb = sym (is-place (sym eb) .0)
+  by-kind false false ea eb = sym (not-place (sym eb) (eqb-false (getD s (at + 4) 0) 12 (sym ea)) .0)
+
+  pub prvalue-by : notPlace (argAt s at) ≡ isPrvalue e
+  unfolding argAt
+  prvalue-by = by-kind _ _ refl refl
+
+  flag-code : (a b : Bool) → a ≡ eqb (getD s (at + 5) 0) 28 → getD s (at + 4) 0 ≡ 12
+      → isAsRef (elim a as (λ _. Arg) [ true ↦ AsRef (at + 16) (endOf s (at + 12)) | false ↦ elim b as (λ _. Arg) [ true ↦ Place | false ↦ Value ] ]) ≡ false → isFlagged e ≡ false
+  flag-code true b ea k h = let z : _≡_ {A = ℕ} 0 1 = cc in absurd (omega arith)
+  flag-code false b ea k h = is-12 k .1 (sym ea)
+
+  flag-kind : (a b : Bool) → a ≡ eqb (getD s (at + 4) 0) 12 → b ≡ placeKind (getD s (at + 4) 0)
+      → isAsRef (elim a as (λ _. Arg) [ true ↦ intrinsicAt s at | false ↦ elim b as (λ _. Arg) [ true ↦ Place | false ↦ Value ] ]) ≡ false → isFlagged e ≡ false
+  unfolding intrinsicAt
+  flag-kind true b ea eb h = flag-code (eqb (getD s (at + 5) 0) 28) (eqb (getD s (at + 5) 0) 29) refl (eqb-true (getD s (at + 4) 0) 12 (sym ea)) h
+  flag-kind false true ea eb h = is-place (sym eb) .1
+  flag-kind false false ea eb h = not-place (sym eb) (eqb-false (getD s (at + 4) 0) 12 (sym ea)) .1
+
+  unflagged-by : isAsRef (argAt s at) ≡ false → isFlagged e ≡ false
+  unfolding argAt
+  unflagged-by h = flag-kind _ _ refl refl h
+
+  as-ref-code : (f t : ℕ) (a b : Bool) → a ≡ eqb (getD s (at + 5) 0) 28 → AsRef f t ≡ (elim a as (λ _. Arg) [ true ↦ AsRef (at + 16) (endOf s (at + 12)) | false ↦ elim b as (λ _. Arg) [ true ↦ Place | false ↦ Value ] ])
+      → (getD s (at + 5) 0 ≡ 28) × (f ≡ at + 16) × (t ≡ endOf s (at + 12))
+  as-ref-code f t true b ea h = (eqb-true (getD s (at + 5) 0) 28 (sym ea), cc, cc)
+  as-ref-code f t false true ea h = let z : _≡_ {A = ℕ} 0 1 = cc in absurd (omega arith)
+  as-ref-code f t false false ea h = let z : _≡_ {A = ℕ} 0 1 = cc in absurd (omega arith)
+
+  as-ref-kind : (f t : ℕ) (a b : Bool) → a ≡ eqb (getD s (at + 4) 0) 12 → AsRef f t ≡ (elim a as (λ _. Arg) [ true ↦ intrinsicAt s at | false ↦ elim b as (λ _. Arg) [ true ↦ Place | false ↦ Value ] ])
+      → (getD s (at + 4) 0 ≡ 12) × (getD s (at + 5) 0 ≡ 28) × (f ≡ at + 16) × (t ≡ endOf s (at + 12))
+  unfolding intrinsicAt
+  as-ref-kind f t true b ea h = let i = as-ref-code f t (eqb (getD s (at + 5) 0) 28) (eqb (getD s (at + 5) 0) 29) refl h in (eqb-true (getD s (at + 4) 0) 12 (sym ea), i .0, i .1, i .2)
+  as-ref-kind f t false true ea h = let z : _≡_ {A = ℕ} 0 1 = cc in absurd (omega arith)
+  as-ref-kind f t false false ea h = let z : _≡_ {A = ℕ} 0 1 = cc in absurd (omega arith)
+
+  flags-as : (k m y i : ℕ) (es : List Expr) → k ≡ 28 → e ≡ intrinsic at k m y i (exprs es) → isFlagged e ≡ onePrvalue (exprs es)
+  unfolding isFlagged
+  flags-as k m y i es h j = rw (j, h)
+
+  as-ref-of : (f t : ℕ) → AsRef f t ≡ argAt s at → AsRefOf (depth - 1) s holder e f t
+  unfolding argAt
+  as-ref-of f t h =
+      let k = as-ref-kind f t (eqb (getD s (at + 4) 0) 12) (placeKind (getD s (at + 4) 0)) refl h in
+      let i = intrinsic-at depth s holder at e next r (k .0) in
+      let j = expr-at depth s holder at r in
+      let n : next ≡ t = i .run .ends ∙ sym (k .3) in
+      let g : at + 12 + 4 ≡ f = omega (arith, k .2) in
+      record {
+        args = i .args;
+        flagged = flags-as _ _ _ _ (i .args) (k .1) (i .tree);
+        reads = same-run (parseExpr (depth - 1) s) (i .args) next t (at + 12 + 4) f n g (i .run .reads);
+        tail = omega (arith, j .tail);
+      }
+
+-- 3. What the functions say
+
+pub told : (s : List ℕ) (at : ℕ) (a : Arg) (b : Bool) → a ≡ argAt s at → notPlace a ≡ b → Tells isPrvalue s at b
+told s at a b h k d holder n e r = sym k ∙ ap notPlace h ∙ prvalue-by s at d holder n e r
+
+pub place-tag : (a : Arg) → tagOf arg-type a ≡ 1 → notPlace a ≡ false
+unfolding notPlace
+place-tag (AsRef f t) h = let z : _≡_ {A = ℕ} 0 1 = cc in absurd (omega arith)
+place-tag Place h = refl
+place-tag Value h = let z : _≡_ {A = ℕ} 0 1 = cc in absurd (omega arith)
+
+pub value-tag : (a : Arg) → tagOf arg-type a ≡ 2 → notPlace a ≡ true
+unfolding notPlace
+value-tag (AsRef f t) h = refl
+value-tag Place h = let z : _≡_ {A = ℕ} 1 2 = cc in absurd (omega arith)
+value-tag Value h = refl
+
+pub as-ref-true : (a : Arg) (f t : ℕ) → a ≡ AsRef f t → notPlace a ≡ true
+unfolding notPlace
+as-ref-true a f t h = rw h
+
+pub unflagged : (s : List ℕ) (at : ℕ) (a : Arg) → a ≡ argAt s at → OneOf (1 ∷ 2 ∷ []) (tagOf arg-type a) → Tells isFlagged s at false
+unflagged s at (AsRef f t) h k d holder n e r = ⊎-elim (λ z. absurd (tag-1 z)) (λ z. absurd (tag-2 z)) k
+  where
+    tag-1 : _≡_ {A = ℕ} 0 1 → ⊥
+    tag-1 z = omega arith
+
+    tag-2 : _≡_ {A = ℕ} 0 2 → ⊥
+    tag-2 z = omega arith
+unflagged s at Place h k d holder n e r = sym (unflagged-by s at d holder n e r (sym (ap isAsRef h)))
+unflagged s at Value h k d holder n e r = sym (unflagged-by s at d holder n e r (sym (ap isAsRef h)))
+
+two : (xs : List Expr) (x : Expr) (ys : List Expr) (y : Expr) (zs : List Expr) → xs ≡ x ∷ ys → ys ≡ y ∷ zs → onePrvalue (exprs xs) ≡ false
+unfolding onePrvalue exprs
+two xs x ys y zs h j = rw (h, j)
+
+module _ (s : List ℕ) (first stop : ℕ) where
+  none-flagged : (d holder : ℕ) (e : Expr) → AsRefOf d s holder e first stop → stop ≤ first → isFlagged e ≡ false
+  unfolding onePrvalue exprs
+  none-flagged d holder e i l =
+      let x = fill-none (parseExpr d s) stop (expr-moves d s stop) first l (i .reads) in
+      i .flagged ∙ ap (λ (xs : List Expr). onePrvalue (exprs xs)) (x .0)
+
+  -- the first argument ends where its length says
+  many-flagged : (d holder : ℕ) (e : Expr) → AsRefOf d s holder e first stop → first < stop → endOf s first < stop → isFlagged e ≡ false
+  many-flagged d holder e i l m =
+      let x = fill-some (parseExpr d s) stop (expr-moves d s stop) first l (i .reads) in
+      let j = expr-at d s stop first (x .3) in
+      let k : x .1 < stop = omega (arith, j .ends) in
+      let y = fill-some (parseExpr d s) stop (expr-moves d s stop) (x .1) k (x .5) in
+      i .flagged ∙ two (i .args) (x .0) (x .2) (y .0) (y .2) (x .4) (y .4)
+
+  one-flagged : (d holder : ℕ) (e : Expr) (b : Bool) → AsRefOf d s holder e first stop → first < stop → stop ≤ endOf s first → Tells isPrvalue s first b → b ≡ isFlagged e
+  unfolding onePrvalue exprs
+  one-flagged d holder e b i l m t =
+      let x = fill-some (parseExpr d s) stop (expr-moves d s stop) first l (i .reads) in
+      let j = expr-at d s stop first (x .3) in
+      let k : stop ≤ x .1 = omega (arith, j .ends) in
+      let y = fill-none (parseExpr d s) stop (expr-moves d s stop) (x .1) k (x .5) in
+      t d stop (x .1) (x .0) (x .3) ∙ sym (i .flagged ∙ ap (λ (xs : List Expr). onePrvalue (exprs xs)) (x .4 ∙ ap (λ (ys : List Expr). x .0 ∷ ys) (y .0)))
+
+  first-of : (d holder : ℕ) (e : Expr) → AsRefOf d s holder e first stop → holder ≤ length s → first < stop → Readable s first
+  first-of d holder e i h l =
+      let x = fill-some (parseExpr d s) stop (expr-moves d s stop) first l (i .reads) in
+      record { depth = d; holder = stop; tree = x .0; next = x .1; reads = x .3; inside = omega (arith, i .tail) }
+
+-- the same at the code's values: `a` is the argument's head
+module _ (s : List ℕ) (at : ℕ) (a : Arg) (first stop : ℕ) (q : a ≡ AsRef first stop) (h : a ≡ argAt s at) where
+  pub no-argument : stop ≤ first → Tells isFlagged s at false
+  no-argument l d holder n e r = sym (none-flagged s first stop _ holder e (as-ref-of s at d holder n e r first stop (sym q ∙ h)) l)
+
+  pub more-arguments : (v : ℕ) → v ≡ number 4 s first → first < stop → first + 4 + v < stop → Tells isFlagged s at false
+  more-arguments v w l m d holder n e r = sym (many-flagged s first stop _ holder e (as-ref-of s at d holder n e r first stop (sym q ∙ h)) l (rw w at m))
+
+  pub one-argument : (v : ℕ) (b : Bool) → v ≡ number 4 s first → first < stop → stop ≤ first + 4 + v → Tells isPrvalue s first b → Tells isFlagged s at b
+  one-argument v b w l m t d holder n e r = one-flagged s first stop _ holder e b (as-ref-of s at d holder n e r first stop (sym q ∙ h)) l (rw w at m) t
+
+  pub first-argument : Readable s at → first < stop → Readable s first
+  first-argument r l = first-of s first stop _ (r .holder) (r .tree) (as-ref-of s at (r .depth) (r .holder) (r .next) (r .tree) (r .reads) first stop (sym q ∙ h)) (r .inside) l
+
+-- where a readable expression and its parts end
+pub readable-in : (s : List ℕ) (at : ℕ) → Readable s at → (at + 5 ≤ endOf s at) × (endOf s at ≤ length s)
+readable-in s at r = let i = expr-at (r .depth) s (r .holder) at (r .reads) in (omega (arith, i .head, i .ends), omega (arith, i .tail, i .ends, r .inside))
+
+pub intrinsic-in : (s : List ℕ) (at kind b : ℕ) → Readable s at → kind ≡ b → b ≡ getD s (at + 4) 0 → kind ≡ 12 → at + 16 ≤ length s
+intrinsic-in s at kind b r h j k =
+    let i = intrinsic-at (r .depth) s (r .holder) at (r .tree) (r .next) (r .reads) (sym j ∙ sym h ∙ k) in
+    let x = expr-at (r .depth) s (r .holder) at (r .reads) in
+    omega (arith, i .run .head, x .tail, r .inside)
+
+-- 4. The heads: `kind` and `code` are the bytes that the code has read
+
+pub a-place : (s : List ℕ) (at kind n : ℕ) → kind ≡ getD s (at + 4) 0 → kind ≡ n → eqb n 12 ≡ false → placeKind n ≡ true → Place ≡ argAt s at
+unfolding argAt
+a-place s at kind n h e z k = let j : getD s (at + 4) 0 ≡ n = sym h ∙ e in simp (j, k, z, argAt)
+
+pub an-intrinsic : (s : List ℕ) (at kind : ℕ) (a : Arg) → kind ≡ getD s (at + 4) 0 → kind ≡ 12 → a ≡ intrinsicAt s at → a ≡ argAt s at
+unfolding argAt
+an-intrinsic s at kind a h k e = let j : getD s (at + 4) 0 ≡ 12 = sym h ∙ k in simp (j, argAt) e
+
+pub a-value : (s : List ℕ) (at kind : ℕ) → kind ≡ getD s (at + 4) 0 → (kind ≡ 7 → ⊥) → (kind ≡ 8 → ⊥) → (kind ≡ 11 → ⊥) → (kind ≡ 12 → ⊥) → Value ≡ argAt s at
+unfolding argAt placeKind
+a-value s at kind h k₇ k₈ k₁₁ k₁₂ =
+    simp (ne-eqb (getD s (at + 4) 0) 7 (λ z. k₇ (h ∙ z)), ne-eqb (getD s (at + 4) 0) 8 (λ z. k₈ (h ∙ z)), ne-eqb (getD s (at + 4) 0) 11 (λ z. k₁₁ (h ∙ z)), ne-eqb (getD s (at + 4) 0) 12 (λ z. k₁₂ (h ∙ z)), argAt, placeKind)
+
+pub an-as-ref : (s : List ℕ) (at code v : ℕ) → code ≡ getD s (at + 5) 0 → code ≡ 28 → v ≡ number 4 s (at + 12) → AsRef (at + 16) (at + 16 + v) ≡ intrinsicAt s at
+unfolding intrinsicAt
+an-as-ref s at code v h k e =
+    let j : getD s (at + 5) 0 ≡ 28 = sym h ∙ k in
+    let i : at + 16 + v ≡ endOf s (at + 12) = omega arith in
+    simp (j, intrinsicAt) (ap (AsRef (at + 16)) i)
+
+pub a-deref : (s : List ℕ) (at code : ℕ) → code ≡ getD s (at + 5) 0 → code ≡ 29 → Place ≡ intrinsicAt s at
+unfolding intrinsicAt
+a-deref s at code h k =
+    let j : getD s (at + 5) 0 ≡ 29 = sym h ∙ k in
+    let n : getD s (at + 5) 0 ≡ 28 → ⊥ = omega arith in
+    simp (ne-eqb (getD s (at + 5) 0) 28 n, eq-eqb (getD s (at + 5) 0) 29 j, intrinsicAt)
+
+pub another-code : (s : List ℕ) (at code : ℕ) → code ≡ getD s (at + 5) 0 → (code ≡ 28 → ⊥) → (code ≡ 29 → ⊥) → Value ≡ intrinsicAt s at
+unfolding intrinsicAt
+another-code s at code h k₈ k₉ = simp (ne-eqb (getD s (at + 5) 0) 28 (λ z. k₈ (h ∙ z)), ne-eqb (getD s (at + 5) 0) 29 (λ z. k₉ (h ∙ z)), intrinsicAt)

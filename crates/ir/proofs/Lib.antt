@@ -1,0 +1,11 @@
+-- What the proofs of several functions use. `Inversion` and the three after it are for the crates that link this one too.
+pub mod Laws
+mod FieldLaws
+mod NodeLaws
+mod Shapes
+mod UnitLaws
+pub mod Inversion
+pub mod ExprPlaces
+pub mod StmtPlaces
+pub mod UnitPlaces
+mod ArgLaws

@@ -1,0 +1,4 @@
+pub mod Verdict
+pub mod Class
+pub mod Places
+pub mod Args

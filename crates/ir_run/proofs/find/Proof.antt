@@ -1,0 +1,15 @@
+use borrow.Author.Needs.{needs}
+use lib.ListN.{length}
+use Prim.Native.Nat.{_≤_, _-_}
+use Rattle.ir_run.proofs.find.Statement.{statement}
+use Rattle.ir_run.proofs.find.Tie as tie
+
+abbrev Inv-loop : tie.InvT-loop
+Inv-loop text from b i₀ i = (from ≤ i) × (i ≤ length text)
+
+abbrev μ-loop : tie.MeasureT-loop
+μ-loop text from b i₀ i = length text - i
+
+pub find-spec : {M : Type 1} → statement M
+find-spec = tie.close (tie.spec Inv-loop μ-loop (λ c. search needs) (λ c. search needs) (λ c. search needs)
+    (λ c. search needs) (λ c. search needs) (λ c. search needs) (λ c. search needs))
