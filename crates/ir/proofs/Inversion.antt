@@ -13,40 +13,10 @@ use Rattle.definitions.specs.Bytes.{number}
 use Rattle.definitions.specs.Tag.{constWidths}
 use Rattle.definitions.specs.Tree.{Callee, Expr, Exprs, Stmt, exprs}
 use Rattle.definitions.specs.Read.{Parser, _>>=_, give, unsigned, small, marks, payload, callee, arguments, room, span, items, filling, run, ended, head, node, exprBody, stmtBody, parseExpr, parseStmt}
+pub use Rattle.laws.proofs.Inversion.{never, bind-ok, when-ok, give-ok, unsigned-is, unsigned-ok, span-is}
 use Rattle.ir.specs.Places.{endOf, ExprAt, StmtAt, RunAt, ByteAt, CallAt}
 
--- 1. Steps
-
-pub never : {A X : Type 0} {n p x k : ℕ} {a : A} → refused n p x ≡ ok a k → X
-never e = let z : _≡_ {A = ℕ} 0 1 = cc in absurd (omega arith)
-
--- a step and what follows it
-pub bind-ok : {A B : Type 0} (m : Answer A) (f : A → ℕ → Answer B) {b : B} {n : ℕ} → bind m f ≡ ok b n → (a : A) × (k : ℕ) × (m ≡ ok a k) × (f a k ≡ ok b n)
-unfolding bind
-bind-ok (ok a k) f e = (a, k, refl, e)
-bind-ok (refused n p x) f e = never e
-
--- a test and what follows it
-pub when-ok : {A : Type 0} (b : Bool) (m : Answer A) (n p x : ℕ) {a : A} {k : ℕ} → (elim b as (λ _. Answer A) [ true ↦ m | false ↦ refused n p x ]) ≡ ok a k → (b ≡ true) × (m ≡ ok a k)
-when-ok true m n p x e = (refl, e)
-when-ok false m n p x e = never e
-
-pub give-ok : {A : Type 0} (a : A) (at : ℕ) {b : A} {n : ℕ} → give a at ≡ ok b n → (b ≡ a) × (at ≡ n)
-unfolding give
-give-ok a at e = (cc, cc)
-
--- 2. Fields, each with what follows it
-
-pub unsigned-is : (s : List ℕ) (nd end w at : ℕ) {v n : ℕ} → unsigned s nd end w at ≡ ok v n → (at + w ≤ end) × (number w s at ≡ v) × (at + w ≡ n)
-unfolding unsigned
-unsigned-is s nd end w at e = let h = when-ok (leb (at + w) end) _ 3 nd 0 e in (leb-true _ _ (h .0), cc (h .1), cc (h .1))
-
-pub unsigned-ok : {B : Type 0} (s : List ℕ) (nd end w : ℕ) (f : ℕ → Parser B) (at : ℕ) {b : B} {n : ℕ} → (unsigned s nd end w >>= f) at ≡ ok b n → (at + w ≤ end) × (f (number w s at) (at + w) ≡ ok b n)
-unfolding _>>=_
-unsigned-ok s nd end w f at e =
-    let h = bind-ok (unsigned s nd end w at) f e in
-    let i = unsigned-is s nd end w at (h .2) in
-    (i .0, rw (← (i .1), ← (i .2)) at (h .3))
+-- 1. Fields, each with what follows it
 
 pub one-byte : (s : List ℕ) (at : ℕ) → number 1 s at ≡ getD s at 0
 unfolding number
@@ -121,13 +91,6 @@ payload-ok {B} s nd end byte f at {b} {n} e = go (eqb byte 15) refl e
     go false h e = unsigned-ok s nd end (getD constWidths byte 0) f at e
 
 -- a length
-pub span-is : (s : List ℕ) (end at : ℕ) {v n : ℕ} → span s end at ≡ ok v n → (at + 4 ≤ endOf s at) × (endOf s at ≤ end) × (endOf s at ≡ v) × (at + 4 ≡ n)
-unfolding span room
-span-is s end at e =
-    let g = unsigned-ok s at end 4 (room at end) at e in
-    let w = when-ok (leb (at + 4 + number 4 s at) end) _ 3 at 0 (g .1) in
-    (omega arith, leb-true _ _ (w .0), cc (w .1), cc (w .1))
-
 span-ok : {B : Type 0} (s : List ℕ) (end : ℕ) (f : ℕ → Parser B) (at : ℕ) {b : B} {n : ℕ} → (span s end >>= f) at ≡ ok b n → (at + 4 ≤ endOf s at) × (endOf s at ≤ end) × (f (endOf s at) (at + 4) ≡ ok b n)
 unfolding _>>=_
 span-ok s end f at e =
@@ -135,7 +98,7 @@ span-ok s end f at e =
     let i = span-is s end at (h .2) in
     (i .0, i .1, rw (← (i .2), ← (i .3)) at (h .3))
 
--- 3. Runs
+-- 2. Runs
 
 pub items-stop : {A : Type 0} (p : Parser A) (fuel end at : ℕ) {xs : List A} {n : ℕ} → items p fuel end at ≡ ok xs n → end ≡ n
 unfolding items
@@ -160,7 +123,7 @@ run-ok s end p f at e =
     let q = items-stop (p (endOf s at)) (suc (endOf s at - (at + 4))) (endOf s at) (at + 4) (g .2) in
     (h .0, record { reads = rw (← q) at (g .2); head = g .0; tail = g .1; ends = refl }, rw (← q) at (h .3))
 
--- 4. Nodes
+-- 3. Nodes
 
 -- the length and the kind are there, the body is read from the sixth byte on and ends where the length says
 pub record NodeAt {A : Type 0} (s : List ℕ) (holder : ℕ) (body : (kind at end : ℕ) → Parser A) (at : ℕ) (a : A) (n : ℕ) : Type 0 where
@@ -228,7 +191,7 @@ pub child-ok : {B : Type 0} (d : ℕ) (s : List ℕ) (end : ℕ) (f : Expr → P
 unfolding _>>=_
 child-ok d s end f at e = let h = bind-ok (parseExpr d s end at) f e in (h .0, h .1, expr-at d s end at (h .2), h .3)
 
--- 5. Items
+-- 4. Items
 
 abbrev itemsOf : {A : Type 0} → Parser A → (fuel stop : ℕ) → A → Parser (List A)
 itemsOf p fuel stop x next = bind (items p fuel stop next) (λ xs. ok (x ∷ xs))
@@ -295,7 +258,7 @@ expr-moves d s stop at x n e = let i = expr-at d s stop at e in omega (arith, i 
 pub stmt-moves : (d : ℕ) (s : List ℕ) (stop at : ℕ) (x : Stmt) (n : ℕ) → parseStmt d s stop at ≡ ok x n → at < n
 stmt-moves d s stop at x n e = let i = stmt-at d s stop at e in omega (arith, i .head)
 
--- 6. Calls
+-- 5. Calls
 
 -- a callee's fields begin at p, and what follows it stands at `next`
 record CalleeAt (s : List ℕ) (end p : ℕ) (c : Callee) (next : ℕ) : Type 0 where

@@ -4,12 +4,14 @@ use mathlib.Core.Path.{_≡_, refl, sym, _∙_, ap}
 use mathlib.Core.List.{List, [], _∷_}
 use mathlib.Core.Bool.{Bool, true, false, cond, _&&_}
 use native.Mathlib.Omega.{arith}
-use lib.Dec.{leb, ltb, eqb, T}
+use lib.Dec.{leb, ltb, eqb, leb→le}
 use lib.ListN.{length, getD}
 use borrow.Author.Tests.{ltb-true, ltb-false, leb-true, eqb-true}
 use Rattle.definitions.specs.Answer.{Answer, ok, refused, bind}
 use Rattle.definitions.specs.Bytes.{number}
 use Rattle.definitions.specs.Tag.{sizes, tagSize}
+use Rattle.laws.proofs.Inversion.{never, bind-ok, when-ok, span-is}
+use Rattle.laws.proofs.Tables.{every, at}
 use Rattle.definitions.specs.Read.{Parser, _>>=_, give, refuse, unsigned, small, marks, room, span, items, filling, run, head, ended, node, pick}
 
 -- 1. Payment
@@ -23,19 +25,9 @@ pub record Item {A : Type 0} (p : Parser A) (end : ℕ) (μ κ : A → ℕ) : Ty
   pub pays : Pays p 0 0 μ κ
   pub within : (at : ℕ) (a : A) (next : ℕ) → p at ≡ ok a next → next ≤ end
 
-pub refused-ok : {A B : Type 0} {n p x : ℕ} {a : A} {next : ℕ} → _≡_ {A = Answer A} (refused n p x) (ok a next) → B
-refused-ok e = let z : _≡_ {A = ℕ} 0 1 = cc in absurd (omega arith)
-
--- both steps of a `bind` that gives something gave something
-pub bound : {A B : Type 0} (r : Answer A) (f : A → ℕ → Answer B) (b : B) (next : ℕ) → bind r f ≡ ok b next → (a : A) × (mid : ℕ) × (r ≡ ok a mid) × (f a mid ≡ ok b next)
-unfolding bind
-bound (ok a mid) f b next e = (a, mid, refl, e)
-bound (refused n p x) f b next e = refused-ok e
-
 -- a test that was passed
 pub passed : {A : Type 0} (b : Bool) (v : A) (n c p x : ℕ) (a : A) (next : ℕ) → _≡_ {A = Answer A} (elim b [ true ↦ ok v n | false ↦ refused c p x ]) (ok a next) → (b ≡ true) × (v ≡ a) × (n ≡ next)
-passed true v n c p x a next e = (refl, cc, cc)
-passed false v n c p x a next e = refused-ok e
+passed b v n c p x a next e = let h = when-ok b (ok v n) c p x e in (h .0, cc (h .1), cc (h .1))
 
 -- 2. Steps
 
@@ -45,7 +37,7 @@ pub over : {A B : Type 0} {p : Parser A} {f : A → Parser B} {k j : ℕ} {μ κ
 unfolding _>>=_
 over {p} {f} h g = record {
   paid = λ at b next e.
-      let r = bound (p at) f b next e in
+      let r = bind-ok (p at) f e in
       let x = h .paid at (r .0) (r .1) (r .2) in
       let y = g (r .0) .paid (r .1) b next (r .3) in
       (omega arith, omega arith);
@@ -94,25 +86,20 @@ sum f (x ∷ xs) = f x + sum f xs
 
 -- a length, and where what it counts ends
 span-ends : (s : List ℕ) (end at stop next : ℕ) → span s end at ≡ ok stop next → (next ≡ at + 4) × (next ≤ stop) × (stop ≤ end)
-unfolding span _>>=_ unsigned room
-span-ends s end at stop next e =
-    let r = bound (unsigned s at end 4 at) (λ n. room at end n) stop next e in
-    let u = passed (leb (at + 4) end) (number 4 s at) (at + 4) 3 at 0 (r .0) (r .1) (r .2) in
-    let t = passed (leb (r .1 + r .0) end) (r .1 + r .0) (r .1) 3 at 0 stop next (r .3) in
-    (omega arith, omega arith, omega (arith, leb-true (r .1 + r .0) end (t .0)))
+span-ends s end at stop next e = let i = span-is s end at e in (omega arith, omega arith, omega arith)
 
 items-pay : {A : Type 0} {p : Parser A} {end : ℕ} {μ κ : A → ℕ} → Item p end μ κ → (fuel at : ℕ) (xs : List A) (next : ℕ) → at ≤ end → items p fuel end at ≡ ok xs next →
     (sum μ xs + 8 * at ≤ 8 * next) × (sum κ xs + at ≤ next) × (next ≡ end)
 unfolding items sum
-items-pay h zero at xs next l e = refused-ok e
+items-pay h zero at xs next l e = never e
 items-pay {A} {p} {end} {μ} {κ} h (suc fuel) at xs next l e = go (λ at xs next. items-pay h fuel at xs next) (ltb at end) refl e
   where
     go : ((at : ℕ) (xs : List A) (next : ℕ) → at ≤ end → items p fuel end at ≡ ok xs next → (sum μ xs + 8 * at ≤ 8 * next) × (sum κ xs + at ≤ next) × (next ≡ end)) →
         (b : Bool) → ltb at end ≡ b → _≡_ {A = Answer (List A)} (elim b [ true ↦ bind (p at) (λ x next. bind (items p fuel end next) (λ xs. ok (x ∷ xs))) | false ↦ ok [] end ]) (ok xs next) →
         (sum μ xs + 8 * at ≤ 8 * next) × (sum κ xs + at ≤ next) × (next ≡ end)
     go more true t e =
-        let r = bound (p at) (λ x next. bind (items p fuel end next) (λ xs. ok (x ∷ xs))) xs next e in
-        let q = bound (items p fuel end (r .1)) (λ xs. ok (r .0 ∷ xs)) xs next (r .3) in
+        let r = bind-ok (p at) (λ x next. bind (items p fuel end next) (λ xs. ok (x ∷ xs))) e in
+        let q = bind-ok (items p fuel end (r .1)) (λ xs. ok (r .0 ∷ xs)) (r .3) in
         let one = h .pays .paid at (r .0) (r .1) (r .2) in
         let rest = more (r .1) (q .0) (q .1) (h .within at (r .0) (r .1) (r .2)) (q .2) in
         let all : r .0 ∷ q .0 ≡ xs = cc in
@@ -129,7 +116,7 @@ pub run-pays : {A : Type 0} {p : ℕ → Parser A} {μ κ : A → ℕ} (s : List
 unfolding run _>>=_ filling
 run-pays {p} s end h = record {
   paid = λ at xs next e.
-      let r = bound (span s end at) (λ stop. filling p stop) xs next e in
+      let r = bind-ok (span s end at) (λ stop. filling p stop) e in
       let t = span-ends s end at (r .0) (r .1) (r .2) in
       let q = items-pay (h (r .0)) (suc (r .0 - r .1)) (r .1) xs next (t .1) (r .3) in
       (omega arith, omega arith);
@@ -138,7 +125,7 @@ run-pays {p} s end h = record {
 pub run-within : {A : Type 0} {p : ℕ → Parser A} {μ κ : A → ℕ} (s : List ℕ) (end : ℕ) → ((stop : ℕ) → Item (p stop) stop μ κ) → (at : ℕ) (xs : List A) (next : ℕ) → run s end p at ≡ ok xs next → next ≤ end
 unfolding run _>>=_ filling
 run-within {p} s end h at xs next e =
-    let r = bound (span s end at) (λ stop. filling p stop) xs next e in
+    let r = bind-ok (span s end at) (λ stop. filling p stop) e in
     let t = span-ends s end at (r .0) (r .1) (r .2) in
     let q = items-pay (h (r .0)) (suc (r .0 - r .1)) (r .1) xs next (t .1) (r .3) in
     omega arith
@@ -150,7 +137,7 @@ pub over-ended : {A B : Type 0} {k j : ℕ} {ν ι : B → ℕ} (place end : ℕ
 unfolding _>>=_ ended
 over-ended place end a f h = record {
   paid = λ at b next e.
-      let r = bound (ended place end a at) f b next e in
+      let r = bind-ok (ended place end a at) f e in
       let t = passed (eqb at end) a at 3 place 0 (r .0) (r .1) (r .2) in
       h .paid at b next (rw (← t .1, ← t .2) at (r .3));
 }
@@ -164,17 +151,17 @@ node-item {A} {body} {μ} {κ} s holder h = record { pays = record { paid = λ a
   where
     go : (at : ℕ) (a : A) (next : ℕ) → node s holder body at ≡ ok a next → (μ a + 8 * at ≤ 8 * next + 0) × (κ a + at ≤ next + 0) × (next ≤ holder)
     go at a next e =
-        let r = bound (head s holder at) (λ h mid. bind (body (h .0) at (h .1) mid) (λ a. ended at (h .1) a)) a next e in
-        let t = bound (span s holder at) (λ end mid. bind (unsigned s at end 1 mid) (λ kind at. ok (kind, end) at)) (r .0) (r .1) (r .2) in
+        let r = bind-ok (head s holder at) (λ h mid. bind (body (h .0) at (h .1) mid) (λ a. ended at (h .1) a)) e in
+        let t = bind-ok (span s holder at) (λ end mid. bind (unsigned s at end 1 mid) (λ kind at. ok (kind, end) at)) (r .2) in
         let stop = span-ends s holder at (t .0) (t .1) (t .2) in
-        let c = bound (unsigned s at (t .0) 1 (t .1)) (λ kind at. ok (kind, t .0) at) (r .0) (r .1) (t .3) in
+        let c = bind-ok (unsigned s at (t .0) 1 (t .1)) (λ kind at. ok (kind, t .0) at) (t .3) in
         let byte = unsigned-pays s at (t .0) 1 .paid (t .1) (c .0) (c .1) (c .2) in
         let hd : (c .0, t .0) ≡ r .0 = cc in
         let mid : c .1 ≡ r .1 = cc in
-        let q = bound (body (r .0 .0) at (r .0 .1) (r .1)) (λ a. ended at (r .0 .1) a) a next (r .3) in
+        let q = bind-ok (body (r .0 .0) at (r .0 .1) (r .1)) (λ a. ended at (r .0 .1) a) (r .3) in
         let paid = h (r .0 .0) at (r .0 .1) .paid (r .1) (q .0) (q .1) (q .2) in
         let f = passed (eqb (q .1) (r .0 .1)) (q .0) (q .1) 3 at 0 a next (q .3) in
-        let end : t .0 ≡ r .0 .1 = second hd in
+        let end : t .0 ≡ r .0 .1 = second {a = c .0} {b = t .0} {h = r .0} hd in
         let last = eqb-true (q .1) (r .0 .1) (f .0) in
         rw (← f .1) (omega arith, omega arith, omega arith)
 
@@ -185,7 +172,7 @@ AllPay (p ∷ ps) μ κ = Pays p 40 5 μ κ × AllPay ps μ κ
 
 pub refuse-pays : {A : Type 0} {k j : ℕ} {μ κ : A → ℕ} (n p x : ℕ) → Pays (refuse {A = A} n p x) k j μ κ
 unfolding refuse
-refuse-pays n p x = record { paid = λ at a next e. refused-ok e }
+refuse-pays n p x = record { paid = λ at a next e. never e }
 
 pub pick-pays : {A : Type 0} {μ κ : A → ℕ} (ps : List (Parser A)) (at kind : ℕ) → AllPay ps μ κ → Pays (pick ps at kind) 40 5 μ κ
 unfolding pick
@@ -195,24 +182,6 @@ pick-pays (p ∷ ps) at (suc k) h = pick-pays ps at k (h .1)
 
 -- 5. No instruction is larger than 17
 
-atMost : ℕ → List ℕ → Bool
-atMost n [] = true
-atMost n (x ∷ xs) = leb x n && atMost n xs
-
-at-most : (n : ℕ) (xs : List ℕ) (k : ℕ) → T (atMost n xs) → getD xs k 0 ≤ n
-unfolding atMost
-at-most n [] k h = omega arith
-at-most n (x ∷ xs) zero h = first (leb x n) refl h
-  where
-    first : (b : Bool) → leb x n ≡ b → T (b && atMost n xs) → x ≤ n
-    first true e h = leb-true x n e
-    first false e h = absurd h
-at-most n (x ∷ xs) (suc k) h = at-most n xs k (rest (leb x n) h)
-  where
-    rest : (b : Bool) → T (b && atMost n xs) → T (atMost n xs)
-    rest true h = h
-    rest false h = absurd h
-
 pub size-limit : (tag : ℕ) → tagSize tag ≤ 17
-unfolding tagSize sizes atMost
-size-limit t = at-most 17 sizes t tt
+unfolding tagSize sizes every
+size-limit t = leb→le (tagSize t) 17 (at (λ x. leb x 17) sizes 0 tt tt t)

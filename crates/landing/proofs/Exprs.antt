@@ -12,15 +12,16 @@ use Rattle.definitions.specs.Tree.{Callee, Expr, Exprs, nop, const, null, newIn
 use Rattle.definitions.specs.Code.{Code}
 use Rattle.definitions.specs.Lower.{weakToRef, nullTag, elementTag, localTag, lowerField, lowerArg, nops, emitInvoke, emitCall, requireFlags, lowerExpr, lowerExprs, lowerArgs, isFlagged, lowerElements, lowerArray}
 use Rattle.definitions.specs.Stage.{totalSize}
+use Rattle.laws.proofs.Tables.{every}
 use Rattle.landing.specs.Distance.{ahead, ParamEnd, sizeWeak, sizeField, sizeSkip, sizeNops, sizeInvoke, sizeE, sizeEs, sizeA, sizeEl, sizeArray, distField, distSkip, distE, distEs, distA}
 use Rattle.landing.proofs.Pieces.{Piece}
 use Rattle.landing.proofs.Counts.{oneIf, countField, countE, countEs, countA, countEl, countArray}
-use Rattle.landing.proofs.Rules.{Carries, nothing, plain, carry, carry2, labels, seq, ends, close, last, here, Whole, isPlain, plain-carries, allPlain, plain-at, straight, requires}
+use Rattle.landing.proofs.Rules.{Carries, nothing, plain, carry, carry2, labels, seq, ends, close, last, here, Whole, isPlain, plain-carries, plain-at, straight, requires}
 
 -- 1. Tags that are picked by number carry no label
 
 const-plain : (b v : ℕ) → T (isPlain (constTag b v))
-unfolding constTag constTags isPlain rowOf rows allPlain
+unfolding constTag constTags isPlain rowOf rows every
 const-plain b v = go (eqb b 9) (eqb b 15)
   where
     go : (p q : Bool) → T (isPlain (elim p [ true ↦ getD (I32Zero ∷ I32One ∷ []) v I32Const | false ↦ elim q [ true ↦ getD (FalseConst ∷ []) v TrueConst | false ↦ getD constTags b Nop ] ]))
@@ -39,14 +40,14 @@ element-plain zero = tt
 element-plain (suc d) = tt
 
 local-plain : (form : ℕ) → T (isPlain (localTag form))
-unfolding localTag isPlain rowOf rows allPlain
+unfolding localTag isPlain rowOf rows every
 local-plain f = plain-at (This ∷ Local ∷ Param ∷ []) ObjectField tt tt f
 
 unfoldable tagsOf : List Intrinsic → List ℕ
 tagsOf ks = map (λ k. k .tag) ks
 
 intrinsic-plain : (code : ℕ) → T (isPlain (intrinsicOf code .tag))
-unfolding intrinsicOf intrinsics isPlain rowOf rows allPlain tagsOf
+unfolding intrinsicOf intrinsics isPlain rowOf rows every tagsOf
 intrinsic-plain k = rw (← List·getD-map (λ i. i .tag) intrinsics k _) (plain-at (tagsOf intrinsics) Nop tt tt k)
 
 -- 2. Parts

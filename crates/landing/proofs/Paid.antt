@@ -13,9 +13,10 @@ use Rattle.definitions.specs.Tree.{Callee, Expr, Exprs, Stmt, Block, Branches, 
 use Rattle.definitions.specs.Read.{Parser, give, unsigned, small, mark, u32, u16, u8, marks, run, ended, node, asNop, payload, asConst, asNull, asNewInstance, asConstruct, asAssign, asField, asIndex, asConditional, asDynCast, asLocal, asIntrinsic, callee, arguments, asFreeCall, asStaticCall, asInstanceCall, asClosureCall, exprKinds, exprBody, parseExpr, asExpr, asNest, asWhile, arm, blockIf, asBranches, asSwitch, asInitArray, asInitDefault, asBreak, asContinue, returnIf, asReturn, stmtKinds, stmtBody, parseStmt, frontGood, parseUnit, _>>=_}
 use Rattle.definitions.specs.Lower.{nullTag, elementTag, localTag, primitiveDefault, defaultInstrs, midDefault}
 use Rattle.definitions.specs.Stage.{totalSize}
+use Rattle.laws.proofs.Inversion.{never, bind-ok}
 use Rattle.landing.specs.Distance.{sizeWeak, sizeField, sizeSkip, sizeNops, sizeInvoke, sizeE, sizeEs, sizeA, sizeEl, sizeArray, sizeAfterReturn, sizeS, sizeM, sizeBl, sizeC, sizeLast, sizeBr, sizeD, sizeB, sizeOf}
 use Rattle.landing.proofs.Counts.{oneIf, countField, countE, countEs, countA, countEl, countArray, countReturn, countS, countM, countBl, countC, countLast, countBr, countD, countB}
-use Rattle.landing.proofs.Bytes.{Pays, Item, refused-ok, bound, passed, over, gives, unsigned-pays, tested, small-pays, marks-pays, sum, run-pays, run-within, over-ended, node-item, refuse-pays, pick-pays, size-limit}
+use Rattle.landing.proofs.Bytes.{Pays, Item, passed, over, gives, unsigned-pays, tested, small-pays, marks-pays, sum, run-pays, run-within, over-ended, node-item, refuse-pays, pick-pays, size-limit}
 
 -- 1. Expressions: what a list of them takes
 
@@ -243,7 +244,7 @@ body-pays s child h kind at end = pick-pays (exprKinds s child at end) at kind (
 
 expr-item : (depth : ℕ) (s : List ℕ) → ExprItem (parseExpr depth s)
 unfolding parseExpr
-expr-item zero s holder = record { pays = record { paid = λ at a next e. refused-ok e }; within = λ at a next e. refused-ok e }
+expr-item zero s holder = record { pays = record { paid = λ at a next e. never e }; within = λ at a next e. never e }
 expr-item (suc d) s holder = node-item s holder (λ kind at end. body-pays s (parseExpr d s) (expr-item d s) kind at end)
 
 -- 3. Statements, in a unit with the return byte r
@@ -343,8 +344,8 @@ module _ (r : ℕ) (s : List ℕ) (value : ℕ → Parser Expr) (v : ExprItem va
   arm-item end = record {
     pays = over (v end .pays) λ c. over (stmts-pay end) λ xs. gives (c, block xs) (let q = block-size r xs in (omega arith, omega arith));
     within = λ at a next e.
-        let p = bound (value end at) (λ c mid. bind (run s end child mid) (λ b n. ok (c, block b) n)) a next e in
-        let q = bound (run s end child (p .1)) (λ b n. ok (p .0, block b) n) a next (p .3) in
+        let p = bind-ok (value end at) (λ c mid. bind (run s end child mid) (λ b n. ok (c, block b) n)) e in
+        let q = bind-ok (run s end child (p .1)) (λ b n. ok (p .0, block b) n) (p .3) in
         let n : q .1 ≡ next = cc in
         rw (← n) (run-within s end h (p .1) (q .0) (q .1) (q .2));
   }
@@ -442,7 +443,7 @@ stmt-body-pays r s value v child h kind at end = pick-pays (stmtKinds s value ch
 
 stmt-item : (r depth : ℕ) (s : List ℕ) → StmtItem r (parseStmt depth s)
 unfolding parseStmt
-stmt-item r zero s holder = record { pays = record { paid = λ at a next e. refused-ok e }; within = λ at a next e. refused-ok e }
+stmt-item r zero s holder = record { pays = record { paid = λ at a next e. never e }; within = λ at a next e. never e }
 stmt-item r (suc d) s holder = node-item s holder (λ kind at end. stmt-body-pays r s (parseExpr d s) (expr-item d s) (parseStmt d s) (stmt-item r d s) kind at end)
 
 -- 5. A unit
@@ -473,10 +474,10 @@ unit-paid s u next e = go (frontGood s) refl e
     ]) (ok u next) → Paid s u
     go true f e =
         let r = getD s 5 0 in
-        let p = bound (run s (length s) (parseStmt 200 s) 6) (λ b. ended 6 (length s) (record { returns = r; body = block b })) u next e in
+        let p = bind-ok (run s (length s) (parseStmt 200 s) 6) (λ b. ended 6 (length s) (record { returns = r; body = block b })) e in
         let t = passed (eqb (p .1) (length s)) (record { returns = r; body = block (p .0) }) (p .1) 3 6 0 u next (p .3) in
         let paid = run-pays s (length s) (stmt-item r 200 s) .paid 6 (p .0) (p .1) (p .2) in
         let end = run-within s (length s) (stmt-item r 200 s) 6 (p .0) (p .1) (p .2) in
         let b = block-size r (p .0) in
         rw (← t .1) (record { bytes = front-length s f; size = omega arith; count = omega arith })
-    go false f e = refused-ok e
+    go false f e = never e

@@ -7,7 +7,8 @@ use mathlib.Core.Logic.{_≢_}
 use native.Mathlib.Omega.{arith}
 use native.Mathlib.Nat.{add-assoc, add-zero}
 use native.Mathlib.Decide.{decLt, ℕ-discrete}
-use lib.Dec.{ltb, eqb, T, ltb→lt, lt→ltb, eqb→eq, eqb-refl}
+use lib.Dec.{ltb, eqb, T}
+use borrow.Author.Tests.{lt-ltb, le-ltb, eq-eqb, ne-eqb}
 use lib.ListN.{length}
 use lib.IntN.{ℤ, pos, negsuc, subℕ}
 use Rattle.definitions.specs.Tag.{rowOf}
@@ -208,29 +209,21 @@ agrees-right M o (refuse n p x ∷ a) b h = absurd h
 
 -- 4. Numbers
 
-pub T→true : (b : Bool) → T b → b ≡ true
-T→true true h = refl
-T→true false h = absurd h
-
-pub T-not→false : (b : Bool) → (T b → ⊥) → b ≡ false
-T-not→false true h = absurd (h tt)
-T-not→false false h = refl
-
 pub below-yes : (n l : ℕ) → l < n → below n l ≡ 1
 unfolding below
-below-yes n l h = rw (T→true (ltb l n) (lt→ltb l n h), below)
+below-yes n l h = rw (lt-ltb l n h, below)
 
 pub below-no : (n l : ℕ) → n ≤ l → below n l ≡ 0
 unfolding below
-below-no n l h = rw (T-not→false (ltb l n) (λ t. let k : l < n = ltb→lt l n t in omega arith), below)
+below-no n l h = rw (le-ltb l n h, below)
 
 pub hit-yes : (l : ℕ) → hit l l ≡ 1
 unfolding hit
-hit-yes l = rw (T→true (eqb l l) (eqb-refl l), hit)
+hit-yes l = rw (eq-eqb l l refl, hit)
 
 pub hit-no : (k l : ℕ) → k ≢ l → hit k l ≡ 0
 unfolding hit
-hit-no k l h = rw (T-not→false (eqb k l) (λ t. h (eqb→eq k l t)), hit)
+hit-no k l h = rw (ne-eqb k l h, hit)
 
 -- a label more
 pub below-suc : (n l : ℕ) → below (suc n) l ≡ below n l + hit n l
@@ -243,12 +236,12 @@ below-suc n l = go (decLt l n) (ℕ-discrete n l)
     go (no h) (no f) = rw (below-no (suc n) l (omega arith), below-no n l (omega arith), hit-no n l f)
 
 pub sub-ahead : (m o a : ℕ) → m ≡ o + a → subℕ m o ≡ ahead a
-sub-ahead m o a h = rw (T-not→false (ltb m o) (λ t. let k : m < o = ltb→lt m o t in omega arith)) (ap pos (omega arith))
+sub-ahead m o a h = rw (le-ltb m o (omega arith)) (ap pos (omega arith))
 
 pub sub-back : (m o a : ℕ) → m + a ≡ o → subℕ m o ≡ back a
 unfolding back
 sub-back m o zero h = sub-ahead m o 0 (omega arith)
-sub-back m o (suc a) h = rw (T→true (ltb m o) (lt→ltb m o (omega arith))) (ap negsuc (omega arith))
+sub-back m o (suc a) h = rw (lt-ltb m o (omega arith)) (ap negsuc (omega arith))
 
 pub back-one : (a : ℕ) → a ≤ 32764 → NotBelow (back a)
 unfolding NotBelow back

@@ -5,7 +5,8 @@ use mathlib.Core.Logic.{_≢_, inl, inr}
 use mathlib.Core.List.{List, [], _∷_}
 use mathlib.Core.Bool.{Bool, true, false, cond, _&&_, not}
 use mathlib.Core.Option.{none, some}
-use lib.Dec.{eqb, eqb→eq}
+use lib.Dec.{eqb}
+use borrow.Author.Tests.{ne-eqb}
 use lib.ListN.{getD}
 use lib.IntN.{ℤ, pos, subℕ}
 use Rattle.definitions.specs.Answer.{Result, made, refusal, onward, checked}
@@ -14,7 +15,7 @@ use Rattle.definitions.specs.Instr.{Instr, size}
 use Rattle.definitions.specs.Code.{unmarked}
 use Rattle.definitions.specs.Resolve.{inRange, word, distanceOf, resolveField, resolveRecord, resolveRecords}
 use Rattle.landing.specs.Landed.{left, filledField, filled, Far, orElse, farField, firstFar, unlessFar, allNear, isMade, CarriedIn, Carried}
-use Rattle.landing.proofs.Pieces.{also, carried, T-not→false}
+use Rattle.landing.proofs.Pieces.{also, carried}
 use Rattle.landing.proofs.Starts.{distances, left-also}
 
 -- 1. A field
@@ -32,7 +33,7 @@ field-resolves : (b : Bool) (marks : List ℕ) (o k x l : ℕ) (ds : List ℤ) �
     resolveField b marks o k x l ≡ unlessFar (farField b k x (also b (subℕ (markIn marks l) o) ds)) (filledField b l (also b (subℕ (markIn marks l) o) ds))
 unfolding resolveField distanceOf farField filledField also CarriedIn checked unlessFar
 field-resolves true marks o k x l ds h =
-    rw (T-not→false (eqb (markIn marks l) unmarked) (λ t. h l refl (eqb→eq (markIn marks l) unmarked t)), checked) (range-far k x (subℕ (markIn marks l) o) (inRange (subℕ (markIn marks l) o)))
+    rw (ne-eqb (markIn marks l) unmarked (h l refl), checked) (range-far k x (subℕ (markIn marks l) o) (inRange (subℕ (markIn marks l) o)))
 field-resolves false marks o k x l ds h = refl
 
 -- 2. One after another

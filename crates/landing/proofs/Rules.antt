@@ -15,6 +15,7 @@ use Rattle.definitions.specs.Code.{Action, Code, mark, emit, refuse, done, act,
 use Rattle.definitions.specs.Lower.{require}
 use Rattle.definitions.specs.Resolve.{inRange}
 use Rattle.definitions.specs.Stage.{totalSize}
+use Rattle.laws.proofs.Tables.{every, at}
 use Rattle.landing.specs.Distance.{ahead, back}
 use Rattle.landing.specs.Landed.{NotBelow}
 use Rattle.landing.proofs.Pieces.{actions, news, records, total, also, carried, dists, Agrees, Scoped, hit, hits, count, Backs, Piece, news-append, total-append, records-append, count-append, hits-append, scoped-append, dists-append, backs-append, agrees-left, agrees-right, below-suc, sub-ahead, sub-back, back-one}
@@ -217,20 +218,8 @@ plain-carries t h = go (rowOf t .first) (rowOf t .second) h
     go false false h = (refl, refl)
 
 -- of a table of tags
-unfoldable pub allPlain : List ℕ → Bool
-allPlain [] = true
-allPlain (t ∷ ts) = isPlain t && allPlain ts
-
-both-true : (a b : Bool) → T (a && b) → T a × T b
-both-true true true h = (tt, tt)
-both-true true false h = absurd h
-both-true false b h = absurd h
-
-pub plain-at : (ts : List ℕ) (d : ℕ) → T (allPlain ts) → T (isPlain d) → (k : ℕ) → T (isPlain (getD ts k d))
-unfolding allPlain
-plain-at [] d h e k = e
-plain-at (t ∷ ts) d h e zero = both-true (isPlain t) (allPlain ts) h .0
-plain-at (t ∷ ts) d h e (suc k) = plain-at ts d (both-true (isPlain t) (allPlain ts) h .1) e k
+pub plain-at : (ts : List ℕ) (d : ℕ) → T (every isPlain ts) → T (isPlain d) → (k : ℕ) → T (isPlain (getD ts k d))
+plain-at ts d h e k = at isPlain ts d h e k
 
 -- of a list of records
 abbrev pub AllPlain : List Instr → Type 0

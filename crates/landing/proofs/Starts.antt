@@ -6,7 +6,8 @@ use mathlib.Core.List.{List, [], _∷_, _++_}
 use mathlib.Core.Bool.{Bool, true, false, cond}
 use native.Mathlib.Omega.{arith}
 use native.Mathlib.Decide.{decLt, ℕ-discrete}
-use lib.Dec.{eqb, ltb, eqb→eq, eqb-refl, lt→ltb, ltb→lt}
+use lib.Dec.{eqb, ltb}
+use borrow.Author.Tests.{lt-ltb, le-ltb, eq-eqb, ne-eqb}
 use lib.ListN.{length, take, drop, getD}
 use lib.IntN.{ℤ, pos, negsuc, subℕ}
 use Rattle.definitions.specs.Tag.{rowOf}
@@ -16,7 +17,7 @@ use Rattle.definitions.specs.Code.{Action, new, mark, emit, refuse}
 use Rattle.definitions.specs.Stage.{totalSize}
 use Rattle.landing.specs.Distance.{sizeOf, distancesOf}
 use Rattle.landing.specs.Landed.{left, carriers, Lands, FieldLands, AllLand, CarriedIn, Carried}
-use Rattle.landing.proofs.Pieces.{news, actions, records, total, also, carried, dists, below-no, Agrees, hit, count, hit-yes, hit-no, T→true, T-not→false}
+use Rattle.landing.proofs.Pieces.{news, actions, records, total, also, carried, dists, below-no, Agrees, hit, count, hit-yes, hit-no}
 use Rattle.landing.proofs.Runs.{whole, actionsOf, lands-as}
 
 -- 1. The distances that the records of a listing carry, where M gives each label's mark
@@ -62,8 +63,8 @@ from o (negsuc d) = o - suc d
 from-sub : (m o : ℕ) → from o (subℕ m o) ≡ m
 unfolding from
 from-sub m o = elim (decLt m o) [
-  | yes h ↦ rw (T→true (ltb m o) (lt→ltb m o h)) (omega arith)
-  | no h ↦ rw (T-not→false (ltb m o) (λ t. h (ltb→lt m o t))) (omega arith)
+  | yes h ↦ rw (lt-ltb m o h) (omega arith)
+  | no h ↦ rw (le-ltb m o (omega arith)) (omega arith)
 ]
 
 sub-injective : (a b o : ℕ) → subℕ a o ≡ subℕ b o → a ≡ b
@@ -91,11 +92,11 @@ bump l M k = elim (eqb k l) [ true ↦ suc (M k) | false ↦ M k ]
 
 bump-same : (l : ℕ) (M : ℕ → ℕ) → bump l M l ≡ suc (M l)
 unfolding bump
-bump-same l M = rw (T→true (eqb l l) (eqb-refl l), bump)
+bump-same l M = rw (eq-eqb l l refl, bump)
 
 bump-other : (l : ℕ) (M : ℕ → ℕ) (k : ℕ) → k ≢ l → bump l M k ≡ M k
 unfolding bump
-bump-other l M k h = rw (T-not→false (eqb k l) (λ t. h (eqb→eq k l t)), bump)
+bump-other l M k h = rw (ne-eqb k l h, bump)
 
 agrees-bump : (l : ℕ) (M : ℕ → ℕ) (o : ℕ) (acts : List Action) → count l acts ≡ 0 → Agrees M o acts → Agrees (bump l M) o acts
 unfolding count Agrees

@@ -16,10 +16,11 @@ use Rattle.definitions.specs.Instr.{Instr}
 use Rattle.definitions.specs.Code.{Code, act, mark, label, many, _then_}
 use Rattle.definitions.specs.Lower.{instr, jump, jumps, lowerExpr, primitiveDefault, defaultInstrs, lowerReturn, lowerReturnNothing, Scope, inLoop, inSwitch, jumpTo, midDefault, endsGroup, inGroup, lowerStmt, lowerMatchers, lowerBodies, lowerBlocks, lowerCases, lowerLast, lowerBranches, lowerDefault, lowerBlock}
 use Rattle.definitions.specs.Stage.{totalSize}
+use Rattle.laws.proofs.Tables.{every}
 use Rattle.landing.specs.Distance.{ahead, back, _and_, Nop, Jump, JumpIfFalse, Switch, SwitchLabel, SwitchDefault, Return, sizeE, sizeAfterReturn, sizeS, sizeM, sizeBl, sizeC, sizeLast, sizeBr, sizeD, sizeB, distE, toBody, toDefault, distM, distS, distBl, distC, distLast, distBr, distD, distB}
 use Rattle.landing.proofs.Pieces.{Piece}
 use Rattle.landing.proofs.Counts.{countE, countReturn, countS, countM, countBl, countC, countLast, countBr, countD, countB}
-use Rattle.landing.proofs.Rules.{nothing, plain, carry, carryBack, carry2, marks, refuses, labels, seq, ends, close, guarded, last, here, either, range, range-snoc, manyLabels, Whole, isPlain, allPlain, plain-at, AllPlain, straight}
+use Rattle.landing.proofs.Rules.{nothing, plain, carry, carryBack, carry2, marks, refuses, labels, seq, ends, close, guarded, last, here, either, range, range-snoc, manyLabels, Whole, isPlain, plain-at, AllPlain, straight}
 use Rattle.landing.proofs.Exprs.{landE, landArray}
 
 pub jump-size : Jump ≡ 3
@@ -29,7 +30,7 @@ jump-size = refl
 -- 1. Statements without blocks
 
 primitive-plain : (k i : ℕ) → AllPlain (primitiveDefault k i)
-unfolding primitiveDefault defaultTags isPlain allPlain rowOf rows
+unfolding primitiveDefault defaultTags isPlain every rowOf rows
 primitive-plain k i = go (ltb k 17) (cond (ltb k 4) i 0)
   where
     go : (b : Bool) (v : ℕ) → AllPlain (cond b (Rattle.definitions.specs.Instr.plain (getD defaultTags k Tag.Nop) 0 v ∷ []) [])

@@ -7,10 +7,10 @@ use mathlib.Core.List.{List, [], _∷_}
 use mathlib.Core.Bool.{Bool, true, false, cond, _&&_, true≢false}
 use mathlib.Core.Option.{Option, none, some}
 use native.Mathlib.Omega.{arith}
-use lib.Dec.{T, ltb, lt→ltb, ltb→lt}
+use lib.Dec.{T, ltb}
 use lib.ListN.{length, getD}
 use lib.IntN.{ℤ, pos, negsuc}
-use borrow.Author.Tests.{ltb-true}
+use borrow.Author.Tests.{ltb-true, lt-ltb, le-ltb}
 use Rattle.definitions.specs.Answer.{ok, onward}
 use Rattle.definitions.specs.Tree.{Script}
 use Rattle.definitions.specs.Read.{parseUnit}
@@ -21,7 +21,7 @@ use Rattle.definitions.specs.Resolve.{inRange, word, signed, resolveRecords}
 use Rattle.definitions.specs.Stage.{totalSize, walked, lowered, stage}
 use Rattle.landing.specs.Distance.{sizeOf, distancesOf}
 use Rattle.landing.specs.Landed.{carriers, withDistances, allNear, isMade, AllLand, Carried, Landed, Bounded, NotBelow, Each, firstOut, Forward, Backward}
-use Rattle.landing.proofs.Pieces.{records, Agrees, Backs, T→true, T-not→false}
+use Rattle.landing.proofs.Pieces.{records, Agrees, Backs}
 use Rattle.landing.proofs.Runs.{whole, actionsOf, markOf, labels-made, labels-limit, listing, offset, agrees}
 use Rattle.landing.proofs.Starts.{distances, distances-count, size-total, recordsOf, unit-distances, unit-lands, unit-marked}
 use Rattle.landing.proofs.Resolving.{resolves-filled, resolves-near}
@@ -84,7 +84,7 @@ bounded s u next read t e =
 -- one that is far enough back to be out of range is below -32,764
 in-range : (n : ℕ) → NotBelow (negsuc n) → inRange (negsuc n) ≡ true
 unfolding NotBelow inRange
-in-range n h = T→true (ltb n 32768) (lt→ltb n 32768 (omega arith))
+in-range n h = lt-ltb n 32768 (omega arith)
 
 first-forward : (ds : List ℤ) → Backs ds → Forward (firstOut ds)
 unfolding Backs firstOut Forward
@@ -117,4 +117,4 @@ unfolding signed word inRange
 signed-word (pos n) e = rw (e, signed)
 signed-word (negsuc n) e =
     let lt = ltb-true n 32768 e in
-    rw (T-not→false (ltb (65535 - n) 32768) (λ t. let k = ltb→lt (65535 - n) 32768 t in absurd (omega arith)), signed) (ap negsuc (omega arith))
+    rw (le-ltb (65535 - n) 32768 (omega arith), signed) (ap negsuc (omega arith))

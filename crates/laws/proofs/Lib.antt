@@ -1,0 +1,3 @@
+-- Laws of the definitions and of tables that several crates cite.
+pub mod Inversion
+pub mod Tables

@@ -1,0 +1,1 @@
+// Only laws of the definitions that several crates cite, in proofs/.
