@@ -14,7 +14,7 @@ use Rattle.definitions.specs.Read.{Parser, give, unsigned, small, mark, u32, u1
 use Rattle.definitions.specs.Lower.{nullTag, elementTag, localTag, primitiveDefault, defaultInstrs, midDefault}
 use Rattle.definitions.specs.Stage.{totalSize}
 use Rattle.laws.proofs.Inversion.{never, bind-ok}
-use Rattle.landing.specs.Distance.{sizeWeak, sizeField, sizeSkip, sizeNops, sizeInvoke, sizeE, sizeEs, sizeA, sizeEl, sizeArray, sizeAfterReturn, sizeS, sizeM, sizeBl, sizeC, sizeLast, sizeBr, sizeD, sizeB, sizeOf}
+use Rattle.landing.specs.Distance.{ParamEnd, sizeWeak, sizeField, sizeSkip, sizeNops, sizeInvoke, sizeE, sizeEs, sizeA, sizeEl, sizeArray, sizeAfterReturn, sizeS, sizeM, sizeBl, sizeC, sizeLast, sizeBr, sizeD, sizeB, sizeOf}
 use Rattle.landing.proofs.Counts.{oneIf, countField, countE, countEs, countA, countEl, countArray, countReturn, countS, countM, countBl, countC, countLast, countBr, countD, countB}
 use Rattle.landing.proofs.Bytes.{Pays, Item, passed, over, gives, unsigned-pays, tested, small-pays, marks-pays, sum, run-pays, run-within, over-ended, node-item, refuse-pays, pick-pays, size-limit}
 
@@ -113,6 +113,12 @@ arguments-pay s at end params h =
     over (exprs-pay s end h) λ xs. over-ended at end xs _
     (tested (leb (length xs) params) (exprs xs) 5 at 0 (omega (arith, el-size xs), omega (arith, el-count xs)))
 
+-- a call is paid by its node, its function and its arguments
+call-size : (c : Callee) (es : Exprs) →
+    (sizeInvoke (c .flags) + sizeA es (c .params) + ParamEnd + 28 ≤ 40 + (96 + 8 * length (c .params)) + (32 + sizeEl es))
+    × (2 + countA es (c .params) + 4 ≤ 5 + (12 + length (c .params)) + (4 + countEl es))
+call-size c es = let r = a-size es (c .params) in (omega (arith, invoke-size (c .flags), size-limit Rattle.definitions.specs.Tag.ParamEnd), omega arith)
+
 -- one expression, in a node with 40 units and 5 records
 abbrev PaysE : Parser Expr → Type 0
 PaysE p = Pays p 40 5 spareE spareC
@@ -178,13 +184,13 @@ module _ (s : List ℕ) (child : ℕ → Parser Expr) (h : ExprItem child) (at e
   unfolding asFreeCall sizeE countE
   freeCall-pays =
       over (callee-pays s at end) λ c. over (arguments-pay s at end (length (c .params)) h) λ es.
-      gives (freeCall at c es) (let r = a-size es (c .params) in (omega (arith, invoke-size (c .flags), size-limit Rattle.definitions.specs.Tag.ParamEnd), omega arith))
+      gives (freeCall at c es) (call-size c es)
 
   staticCall-pays : PaysE (asStaticCall s child at end)
   unfolding asStaticCall sizeE countE
   staticCall-pays =
       over (callee-pays s at end) λ c. over (arguments-pay s at end (length (c .params)) h) λ es.
-      gives (staticCall at c es) (let r = a-size es (c .params) in (omega (arith, invoke-size (c .flags), size-limit Rattle.definitions.specs.Tag.ParamEnd), omega arith))
+      gives (staticCall at c es) (call-size c es)
 
   instanceCall-pays : PaysE (asInstanceCall s child at end)
   unfolding asInstanceCall sizeE countE
