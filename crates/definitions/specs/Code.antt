@@ -4,6 +4,7 @@ use mathlib.Core.Bool.{true, false}
 use mathlib.Core.List.{List, [], _∷_, _++_}
 use lib.Dec.{ltb}
 use lib.ListN.{length, set}
+use Rattle.definitions.specs.Answer.{Result, made, refusal, onward, checked}
 use Rattle.definitions.specs.Instr.{Instr, size}
 
 pub data Action : Type 0 where
@@ -38,14 +39,6 @@ pub record State : Type 0 where
   pub instrs : List Instr
   pub marks : List ℕ
 
-pub data Outcome : Type 0 where
-  going : State → Outcome
-  stopped : (number place extra : ℕ) → Outcome
-
-unfoldable pub andThen : Outcome → (State → Outcome) → Outcome
-andThen (going s) f = f s
-andThen (stopped n p x) f = stopped n p x
-
 -- "unmarked is 4,294,967,295"
 unfoldable pub unmarked : ℕ
 unmarked = 4294967295
@@ -54,21 +47,28 @@ unmarked = 4294967295
 unfoldable pub labelLimit : ℕ
 labelLimit = 65536
 
-unfoldable pub step : Action → State → Outcome
-step (new at) s = elim (ltb (length (s .marks)) labelLimit) [
-  | true ↦ going (record { offset = s .offset; instrs = s .instrs; marks = s .marks ++ (unmarked ∷ []) })
-  | false ↦ stopped 15 at 0
-]
-step (mark l) s = going (record { offset = s .offset; instrs = s .instrs; marks = set (s .marks) l (s .offset) })
-step (emit i) s = going (record { offset = s .offset + size i; instrs = s .instrs ++ (i ∷ []); marks = s .marks })
-step (refuse n p x) s = stopped n p x
+-- how a state changes: a label more, which is unmarked; a label marked with where the code stands; a record more
+abbrev pub newLabel : State → State
+newLabel s = record { offset = s .offset; instrs = s .instrs; marks = s .marks ++ (unmarked ∷ []) }
+
+abbrev pub markLabel : (label : ℕ) → State → State
+markLabel l s = record { offset = s .offset; instrs = s .instrs; marks = set (s .marks) l (s .offset) }
+
+abbrev pub emitRecord : Instr → State → State
+emitRecord i s = record { offset = s .offset + size i; instrs = s .instrs ++ (i ∷ []); marks = s .marks }
+
+unfoldable pub step : Action → State → Result State
+step (new at) s = checked (ltb (length (s .marks)) labelLimit) 15 at 0 (made (newLabel s))
+step (mark l) s = made (markLabel l s)
+step (emit i) s = made (emitRecord i s)
+step (refuse n p x) s = refusal n p x
 
 -- a new label's number is how many there are before it
-unfoldable pub execute : Code → State → Outcome
-execute done s = going s
+unfoldable pub execute : Code → State → Result State
+execute done s = made s
 execute (act a) s = step a s
-execute (p then q) s = andThen (execute p s) (λ t. execute q t)
-execute (label at k) s = andThen (step (new at) s) (λ t. execute (k (length (s .marks))) t)
+execute (p then q) s = onward (execute p s) (λ t. execute q t)
+execute (label at k) s = onward (step (new at) s) (λ t. execute (k (length (s .marks))) t)
 
 abbrev pub start : State
 start = record { offset = 0; instrs = []; marks = [] }

@@ -7,15 +7,15 @@ use lib.ListN.{length}
 use lib.IntN.{ℤ, pos, negℤ}
 use Rattle.definitions.specs.Answer.{Answer, Result, made, refusal, bind, onward, checked}
 use Rattle.definitions.specs.Bytes.{number, bytes}
-use Rattle.definitions.specs.Tag.{Nop, Null, I32One, I32Zero, I8Const, I32Const, U64Const, CNameConst, EnumConst, StringConst, TrueConst, FalseConst, Assign, Local, Param, ObjectField, Switch, SwitchLabel, SwitchDefault, Jump, JumpIfFalse, Skip, Conditional, Construct, InvokeStatic, InvokeVirtual, ParamEnd, Return, StructField, Context, This, ArrayClear, ArrayResize, ArrayElement, StaticArrayElement, I32ToEnum, DynamicCast, WeakRefToRef, RefToWeakRef, WeakRefNull, AsRef, Deref, sizes, tagSize, emitted, rows, rowOf, defaultTags, constTags, constTag, constWidths, intrinsics, intrinsicOf}
-use Rattle.definitions.specs.Instr.{Instr, recordBytes, recordAt, unused0, goodRecord}
-use Rattle.definitions.specs.Tree.{exprs, block, branchesOf, casesOf, lengthE, lengthC, isPresent, placeOf}
-use Rattle.definitions.specs.Read.{_>>=_, give, refuse, unsigned, small, marks, room, span, items, filling, run, head, ended, node, pick, asNop, payload, asConst, asNull, asNewInstance, asConstruct, asAssign, asField, asIndex, asConditional, asDynCast, asLocal, asIntrinsic, callee, arguments, asFreeCall, asStaticCall, asInstanceCall, asClosureCall, exprKinds, exprBody, parseExpr, asExpr, asNest, asWhile, arm, blockIf, asBranches, asSwitch, asInitArray, asInitDefault, asBreak, asContinue, returnIf, asReturn, stmtKinds, stmtBody, parseStmt, frontGood, parseUnit}
-use Rattle.definitions.specs.Code.{many, emits, andThen, unmarked, labelLimit, step, execute}
+use Rattle.definitions.specs.Tag.{Nop, Null, I32One, I32Zero, I8Const, I32Const, U64Const, CNameConst, EnumConst, StringConst, TrueConst, FalseConst, Assign, Local, Param, ObjectField, Switch, SwitchLabel, SwitchDefault, Jump, JumpIfFalse, Skip, Conditional, Construct, InvokeStatic, InvokeVirtual, ParamEnd, Return, StructField, Context, This, ArrayClear, ArrayResize, ArrayElement, StaticArrayElement, RefToBool, I32ToEnum, DynamicCast, WeakRefToRef, RefToWeakRef, WeakRefNull, AsRef, Deref, sizes, tagSize, emitted, rows, rowOf, defaultTags, constTags, constTag, constWidths, intrinsics, intrinsicOf}
+use Rattle.definitions.specs.Instr.{Instr, size, recordBytes, recordAt, unused0, goodRecord}
+use Rattle.definitions.specs.Tree.{exprsOf, blockOf, branchesOf, casesOf, lengthExprs, lengthCases, isPresent, placeOf}
+use Rattle.definitions.specs.Read.{_>>=_, give, unknownKind, unsigned, byteBelow, markBytes, room, span, items, filling, run, head, ended, node, pick, asNop, payload, asConst, asNull, asNewInstance, asConstruct, asAssign, asField, asIndex, asConditional, asDynCast, asLocal, asIntrinsic, callee, arguments, asFreeCall, asStaticCall, asInstanceCall, asClosureCall, exprKinds, exprBody, parseExpr, asExpr, asBlock, asWhile, arm, blockIf, asBranches, asSwitch, asInitArray, asInitDefault, asBreak, asContinue, returnIf, asReturn, stmtKinds, stmtBody, parseStmt, frontGood, parseUnit}
+use Rattle.definitions.specs.Code.{many, emits, unmarked, labelLimit, step, execute}
 use Rattle.definitions.specs.Lower.{require, isPrvalue, onePrvalue, isFlagged, flagsOf, requireFlags, weakToRef, nullTag, elementTag, localTag, lowerField, lowerArg, nops, emitInvoke, emitCall, lowerExpr, lowerElements, lowerArray, primitiveDefault, defaultInstrs, lowerReturn, lowerReturnNothing, jumpTo, midDefault, endsGroup, inGroup, lowerStmt}
 use Rattle.definitions.specs.Listing.{recordsBytes, listingBytes, countOf, listingFront, recordsFrom, allGood, readListing, view}
 use Rattle.definitions.specs.Resolve.{inRange, word, signed, distanceOf, resolveField, resolveRecord, resolveRecords, resolve}
-use Rattle.definitions.specs.Stage.{Line, Printed, code, refusedWith, walked, lowered, labelled, lowerInto, stage, linesFrom, totalSize, printed}
+use Rattle.definitions.specs.Stage.{Line, Printed, code, refusedWith, lowered, labelled, lowerInto, stage, linesFrom, totalSize, printed}
 
 -- 1. Questions and replies
 
@@ -53,12 +53,12 @@ answer (viewOf s n) = replyOf part (view s n)
 
 -- 2. Short forms
 
-pub record Row : Type 0 where
+pub record Example : Type 0 where
   pub question : Question
   pub reply : Reply
 
-abbrev row : Question → Reply → Row
-row q r = record { question = q; reply = r }
+abbrev example : Question → Reply → Example
+example q r = record { question = q; reply = r }
 
 -- a distance onward, or a label; a distance back
 abbrev on : ℕ → ℤ
@@ -127,293 +127,306 @@ listingOf t l v = listingBytes (record { tag = t; small = 0; first = l; second =
 
 -- 3. The table
 
-pub table : List Row
+pub table : List Example
 table =
     -- (a) while (false) { break }: starts 0, 3, 4, 7; sizes 3, 1, 3, 3; distances 10, 6 and -7
-    row (stageOf (bytes 31 0x010000001A0000000015000000110300000003020F00000000050000000108)) (prints 4 10 (
+    example (stageOf (bytes 31 0x010000001A0000000015000000110300000003020F00000000050000000108)) (prints 4 10 (
     first 0 JumpIfFalse (on 10) 0 ∷ values 3 FalseConst 0 0 ∷ first 4 Jump (on 6) 0 ∷ first 7 Jump (back 7) 0 ∷ []))
     -- (b) an empty block: no instruction
-    ∷ row (stageOf (bytes 10 0x01000000050000000000)) (prints 0 0 [])
+    ∷ example (stageOf (bytes 10 0x01000000050000000000)) (prints 0 0 [])
     -- (c) a lone Break
-    ∷ row (stageOf (bytes 15 0x010000000A00000000050000000108)) (refuses 10 10 0)
+    ∷ example (stageOf (bytes 15 0x010000000A00000000050000000108)) (refuses 10 10 0)
     -- (d) continue in a switch in a loop lands on JumpIfFalse
-    ∷ row (stageOf (bytes 61 0x010000003800000000330000002F03000000010100000025000000210500000009000000010100000000000000000E0000000101000000050000000109)) (prints 8 28 (
+    ∷ example (stageOf (bytes 61 0x010000003800000000330000002F03000000010100000025000000210500000009000000010100000000000000000E0000000101000000050000000109)) (prints 8 28 (
     first 0 JumpIfFalse (on 28) 0 ∷ values 3 Nop 0 0 ∷ first 4 Switch (on 12) 9 ∷ values 15 Nop 0 0 ∷ both 16 SwitchLabel (on 9) (on 6) ∷
     values 21 Nop 0 0 ∷ first 22 Jump (back 22) 0 ∷ first 25 Jump (back 25) 0 ∷ []))
     -- (e) the same without the loop
-    ∷ row (stageOf (bytes 47 0x010000002A0000000025000000210500000009000000010100000000000000000E0000000101000000050000000109)) (refuses 11 42 0)
+    ∷ example (stageOf (bytes 47 0x010000002A0000000025000000210500000009000000010100000000000000000E0000000101000000050000000109)) (refuses 11 42 0)
     -- (f) no branches, no default: 2 labels, the second marked 0
-    ∷ row (labelledOf (bytes 20 0x010000000F000000000A00000006040000000000)) (labels 0 0 (unmarked ∷ 0 ∷ []) [])
+    ∷ example (labelledOf (bytes 20 0x010000000F000000000A00000006040000000000)) (labels 0 0 (unmarked ∷ 0 ∷ []) [])
     -- (g) I32 0, 1, 2: sizes 1, 1, 5
-    ∷ row (stageOf (bytes 55 0x0100000032000000002D0000000B01000000060209000000000000000B01000000060209000000010000000B0100000006020900000002)) (prints 3 7 (
+    ∷ example (stageOf (bytes 55 0x0100000032000000002D0000000B01000000060209000000000000000B01000000060209000000010000000B0100000006020900000002)) (prints 3 7 (
     values 0 I32Zero 0 0 ∷ values 1 I32One 0 0 ∷ values 2 I32Const 0 2 ∷ []))
     -- (h) two cases, no default, the first empty: one body label
-    ∷ row (labelledOf (bytes 56 0x0100000033000000002E0000002A050000000900000001010000000000000000170000000101000000000000000101000000050000000108)) (labels 7 27 (27 ∷ 12 ∷ 24 ∷ 18 ∷ 27 ∷ []) (
+    ∷ example (labelledOf (bytes 56 0x0100000033000000002E0000002A050000000900000001010000000000000000170000000101000000000000000101000000050000000108)) (labels 7 27 (27 ∷ 12 ∷ 24 ∷ 18 ∷ 27 ∷ []) (
     first 0 Switch (on 1) 9 ∷ values 11 Nop 0 0 ∷ both 12 SwitchLabel (on 3) (on 2) ∷ values 17 Nop 0 0 ∷
     both 18 SwitchLabel (on 4) (on 2) ∷ values 23 Nop 0 0 ∷ first 24 Jump (on 0) 0 ∷ []))
     -- (h) its distances: both bodies after the second matcher
-    ∷ row (stageOf (bytes 56 0x0100000033000000002E0000002A050000000900000001010000000000000000170000000101000000000000000101000000050000000108)) (prints 7 27 (
+    ∷ example (stageOf (bytes 56 0x0100000033000000002E0000002A050000000900000001010000000000000000170000000101000000000000000101000000050000000108)) (prints 7 27 (
     first 0 Switch (on 12) 9 ∷ values 11 Nop 0 0 ∷ both 12 SwitchLabel (on 6) (on 12) ∷ values 17 Nop 0 0 ∷
     both 18 SwitchLabel (on 9) (on 6) ∷ values 23 Nop 0 0 ∷ first 24 Jump (on 3) 0 ∷ []))
     -- (i) default_index equal to the case count: default last
-    ∷ row (stageOf (bytes 67 0x010000003E0000000039000000350500000009000000010100000001010000001300000001010000000A000000060100000001010000000B0000000701000000020300)) (prints 7 21 (
+    ∷ example (stageOf (bytes 67 0x010000003E0000000039000000350500000009000000010100000001010000001300000001010000000A000000060100000001010000000B0000000701000000020300)) (prints 7 21 (
     first 0 Switch (on 12) 9 ∷ values 11 Nop 0 0 ∷ both 12 SwitchLabel (on 7) (on 6) ∷ values 17 Nop 0 0 ∷ values 18 Nop 0 0 ∷
     values 19 SwitchDefault 0 0 ∷ values 20 Null 0 0 ∷ []))
     -- switches
     -- a group of three whose first two blocks are empty: all three bodies after the third matcher
-    ∷ row (stageOf (bytes 65 0x010000003C000000003700000033050000000900000001010000000000000000200000000101000000000000000101000000000000000101000000050000000108)) (prints 9 33 (
+    ∷ example (stageOf (bytes 65 0x010000003C000000003700000033050000000900000001010000000000000000200000000101000000000000000101000000000000000101000000050000000108)) (prints 9 33 (
     first 0 Switch (on 12) 9 ∷ values 11 Nop 0 0 ∷ both 12 SwitchLabel (on 6) (on 18) ∷ values 17 Nop 0 0 ∷
     both 18 SwitchLabel (on 6) (on 12) ∷ values 23 Nop 0 0 ∷ both 24 SwitchLabel (on 9) (on 6) ∷ values 29 Nop 0 0 ∷
     first 30 Jump (on 3) 0 ∷ []))
     -- two groups: the second case ends the first, the last case ends the second though it is empty
-    ∷ row (labelledOf (bytes 70 0x0100000041000000003C000000380500000009000000010100000000000000002500000001010000000000000001010000000A00000006010000000101000000010100000000)) (labels 9 31 (31 ∷ 12 ∷ 24 ∷ 18 ∷ 25 ∷ 31 ∷ 31 ∷ []) (
+    ∷ example (labelledOf (bytes 70 0x0100000041000000003C000000380500000009000000010100000000000000002500000001010000000000000001010000000A00000006010000000101000000010100000000)) (labels 9 31 (31 ∷ 12 ∷ 24 ∷ 18 ∷ 25 ∷ 31 ∷ 31 ∷ []) (
     first 0 Switch (on 1) 9 ∷ values 11 Nop 0 0 ∷ both 12 SwitchLabel (on 3) (on 2) ∷ values 17 Nop 0 0 ∷
     both 18 SwitchLabel (on 4) (on 2) ∷ values 23 Nop 0 0 ∷ values 24 Nop 0 0 ∷ both 25 SwitchLabel (on 6) (on 5) ∷ values 30 Nop 0 0 ∷ []))
     -- a block that holds one empty block is not empty
-    ∷ row (labelledOf (bytes 65 0x010000003C000000003700000033050000000900000001010000000000000000200000000101000000090000000502000000000000000101000000050000000108)) (labels 7 27 (27 ∷ 12 ∷ 18 ∷ 18 ∷ 24 ∷ 27 ∷ []) (
+    ∷ example (labelledOf (bytes 65 0x010000003C000000003700000033050000000900000001010000000000000000200000000101000000090000000502000000000000000101000000050000000108)) (labels 7 27 (27 ∷ 12 ∷ 18 ∷ 18 ∷ 24 ∷ 27 ∷ []) (
     first 0 Switch (on 1) 9 ∷ values 11 Nop 0 0 ∷ both 12 SwitchLabel (on 3) (on 2) ∷ values 17 Nop 0 0 ∷
     both 18 SwitchLabel (on 5) (on 4) ∷ values 23 Nop 0 0 ∷ first 24 Jump (on 0) 0 ∷ []))
     -- a mid default at index 0: its block first, after a Jump past it
-    ∷ row (stageOf (bytes 67 0x010000003E0000000039000000350500000009000000010100000000010000001300000001010000000A000000060100000001010000000B0000000701000000020300)) (prints 8 24 (
+    ∷ example (stageOf (bytes 67 0x010000003E0000000039000000350500000009000000010100000000010000001300000001010000000A000000060100000001010000000B0000000701000000020300)) (prints 8 24 (
     first 0 Switch (on 12) 9 ∷ values 11 Nop 0 0 ∷ both 12 SwitchLabel (on 6) (on 11) ∷ values 17 Nop 0 0 ∷ values 18 SwitchDefault 0 0 ∷
     first 19 Jump (on 3) 0 ∷ values 22 Null 0 0 ∷ values 23 Nop 0 0 ∷ []))
     -- a mid default at index 1: all matchers, SwitchDefault, Jump, then block 0, the default, block 1
-    ∷ row (stageOf (bytes 86 0x0100000051000000004C000000480500000009000000010100000001010000002200000001010000000B000000070100000002030000000001010000000500000001080000000F0000000B0100000006020901020304)) (prints 11 37 (
+    ∷ example (stageOf (bytes 86 0x0100000051000000004C000000480500000009000000010100000001010000002200000001010000000B000000070100000002030000000001010000000500000001080000000F0000000B0100000006020901020304)) (prints 11 37 (
     first 0 Switch (on 12) 9 ∷ values 11 Nop 0 0 ∷ both 12 SwitchLabel (on 6) (on 16) ∷ values 17 Nop 0 0 ∷
     both 18 SwitchLabel (on 6) (on 16) ∷ values 23 Nop 0 0 ∷ values 24 SwitchDefault 0 0 ∷ first 25 Jump (on 4) 0 ∷ values 28 Null 0 0 ∷
     values 29 I32Const 0 16909060 ∷ first 34 Jump (on 3) 0 ∷ []))
     -- no case and a default: Switch lands on SwitchDefault
-    ∷ row (stageOf (bytes 42 0x010000002500000000200000001C05000000090000000101000000000100000000000000050000000108)) (prints 4 16 (
+    ∷ example (stageOf (bytes 42 0x010000002500000000200000001C05000000090000000101000000000100000000000000050000000108)) (prints 4 16 (
     first 0 Switch (on 12) 9 ∷ values 11 Nop 0 0 ∷ values 12 SwitchDefault 0 0 ∷ first 13 Jump (on 3) 0 ∷ []))
     -- default_index is ignored without a default
-    ∷ row (stageOf (bytes 47 0x010000002A0000000025000000210500000009000000010100000005000000000E0000000101000000050000000108)) (prints 5 21 (
+    ∷ example (stageOf (bytes 47 0x010000002A0000000025000000210500000009000000010100000005000000000E0000000101000000050000000108)) (prints 5 21 (
     first 0 Switch (on 12) 9 ∷ values 11 Nop 0 0 ∷ both 12 SwitchLabel (on 9) (on 6) ∷ values 17 Nop 0 0 ∷ first 18 Jump (on 3) 0 ∷ []))
     -- other statements
     -- Branches: JumpIfFalse past its Jump, Jump past the statement; the last next is unmarked
-    ∷ row (labelledOf (bytes 57 0x0100000034000000002F0000002B030000000101000000210000001D040000000E000000010100000005000000010901000000050000000108)) (labels 8 20 (0 ∷ 20 ∷ 14 ∷ 17 ∷ unmarked ∷ []) (
+    ∷ example (labelledOf (bytes 57 0x0100000034000000002F0000002B030000000101000000210000001D040000000E000000010100000005000000010901000000050000000108)) (labels 8 20 (0 ∷ 20 ∷ 14 ∷ 17 ∷ unmarked ∷ []) (
     first 0 JumpIfFalse (on 1) 0 ∷ values 3 Nop 0 0 ∷ first 4 JumpIfFalse (on 2) 0 ∷ values 7 Nop 0 0 ∷ first 8 Jump (on 0) 0 ∷
     first 11 Jump (on 3) 0 ∷ first 14 Jump (on 1) 0 ∷ first 17 Jump (on 0) 0 ∷ []))
     -- InitArray of two
-    ∷ row (stageOf (bytes 37 0x0100000020000000001B000000170600000003000000090000000A00000001010000000101)) (prints 13 85 (
+    ∷ example (stageOf (bytes 37 0x0100000020000000001B000000170600000003000000090000000A00000001010000000101)) (prints 13 85 (
     values 0 ArrayResize 0 9 ∷ values 9 Local 0 3 ∷ values 18 U64Const 0 2 ∷ values 27 Assign 0 0 ∷ values 28 ArrayElement 0 9 ∷
     values 37 Local 0 3 ∷ values 46 U64Const 0 0 ∷ values 55 Nop 0 0 ∷ values 56 Assign 0 0 ∷ values 57 ArrayElement 0 9 ∷
     values 66 Local 0 3 ∷ values 75 U64Const 0 1 ∷ values 84 Nop 0 0 ∷ []))
     -- InitArray of none: nothing
-    ∷ row (stageOf (bytes 27 0x010000001600000000110000000D06000000030000000900000000)) (prints 0 0 [])
+    ∷ example (stageOf (bytes 27 0x010000001600000000110000000D06000000030000000900000000)) (prints 0 0 [])
     -- InitDefault of a variant: nothing
-    ∷ row (stageOf (bytes 24 0x0100000013000000000E0000000A07000000030000000009)) (prints 0 0 [])
+    ∷ example (stageOf (bytes 24 0x0100000013000000000E0000000A07000000030000000009)) (prints 0 0 [])
     -- of an array
-    ∷ row (stageOf (bytes 24 0x0100000013000000000E0000000A07000000030100000009)) (prints 2 18 (
+    ∷ example (stageOf (bytes 24 0x0100000013000000000E0000000A07000000030100000009)) (prints 2 18 (
     values 0 ArrayClear 0 9 ∷ values 9 Local 0 3 ∷ []))
     -- of a struct
-    ∷ row (stageOf (bytes 24 0x0100000013000000000E0000000A07000000030200000009)) (prints 3 20 (
+    ∷ example (stageOf (bytes 24 0x0100000013000000000E0000000A07000000030200000009)) (prints 3 20 (
     values 0 Assign 0 0 ∷ values 1 Local 0 3 ∷ values 10 Construct 0 9 ∷ []))
     -- of another aggregate: the index is ignored
-    ∷ row (stageOf (bytes 24 0x0100000013000000000E0000000A07000000030300000009)) (prints 3 11 (
+    ∷ example (stageOf (bytes 24 0x0100000013000000000E0000000A07000000030300000009)) (prints 3 11 (
     values 0 Assign 0 0 ∷ values 1 Local 0 3 ∷ values 10 Null 0 0 ∷ []))
     -- of an enum
-    ∷ row (stageOf (bytes 24 0x0100000013000000000E0000000A07000000030400000009)) (prints 4 22 (
+    ∷ example (stageOf (bytes 24 0x0100000013000000000E0000000A07000000030400000009)) (prints 4 22 (
     values 0 Assign 0 0 ∷ values 1 Local 0 3 ∷ values 10 I32ToEnum 1 9 ∷ values 20 I8Const 0 0 ∷ []))
     -- of a String: the index is stored
-    ∷ row (stageOf (bytes 24 0x0100000013000000000E0000000A07000000030500000009)) (prints 3 15 (
+    ∷ example (stageOf (bytes 24 0x0100000013000000000E0000000A07000000030500000009)) (prints 3 15 (
     values 0 Assign 0 0 ∷ values 1 Local 0 3 ∷ values 10 StringConst 0 9 ∷ []))
     -- of a WeakRef: the index is ignored
-    ∷ row (stageOf (bytes 24 0x0100000013000000000E0000000A07000000031500000009)) (prints 3 11 (
+    ∷ example (stageOf (bytes 24 0x0100000013000000000E0000000A07000000031500000009)) (prints 3 11 (
     values 0 Assign 0 0 ∷ values 1 Local 0 3 ∷ values 10 WeakRefNull 0 0 ∷ []))
     -- of a primitive with no value
-    ∷ row (stageOf (bytes 24 0x0100000013000000000E0000000A07000000031600000009)) (prints 2 10 (
+    ∷ example (stageOf (bytes 24 0x0100000013000000000E0000000A07000000031600000009)) (prints 2 10 (
     values 0 Assign 0 0 ∷ values 1 Local 0 3 ∷ []))
     -- Return of a value in a unit with a return value
-    ∷ row (stageOf (bytes 21 0x0100000010010000000B000000070A010000000101)) (prints 2 2 (
+    ∷ example (stageOf (bytes 21 0x0100000010010000000B000000070A010000000101)) (prints 2 2 (
     values 0 Return 0 0 ∷ values 1 Nop 0 0 ∷ []))
     -- Return of nothing there
-    ∷ row (stageOf (bytes 16 0x010000000B0100000006000000020A00)) (prints 2 2 (
+    ∷ example (stageOf (bytes 16 0x010000000B0100000006000000020A00)) (prints 2 2 (
     values 0 Return 0 0 ∷ values 1 Nop 0 0 ∷ []))
     -- Return of a value in a unit without
-    ∷ row (stageOf (bytes 22 0x0100000011000000000C000000080A01000000020301)) (prints 3 3 (
+    ∷ example (stageOf (bytes 22 0x0100000011000000000C000000080A01000000020301)) (prints 3 3 (
     values 0 WeakRefNull 0 0 ∷ values 1 Return 0 0 ∷ values 2 Nop 0 0 ∷ []))
     -- expressions
     -- EnumConst: the enum in the high 32 bits
-    ∷ row (stageOf (bytes 29 0x010000001800000000130000000F010000000A0204ABCDEF0100000002)) (prints 1 17 (
+    ∷ example (stageOf (bytes 29 0x010000001800000000130000000F010000000A0204ABCDEF0100000002)) (prints 1 17 (
     values 0 EnumConst 0 0xABCDEF0100000002 ∷ []))
     -- an I8 is zero-extended
-    ∷ row (stageOf (bytes 22 0x0100000011000000000C0000000801000000030207FF)) (prints 1 2 (
+    ∷ example (stageOf (bytes 22 0x0100000011000000000C0000000801000000030207FF)) (prints 1 2 (
     values 0 I8Const 0 255 ∷ []))
     -- a field of a struct; of an object by weak reference: Context lands past ObjectField
-    ∷ row (stageOf (bytes 45 0x010000002800000000230000001F010000001A07000000000400000010070200000005000000060B0000000006)) (prints 5 23 (
+    ∷ example (stageOf (bytes 45 0x010000002800000000230000001F010000001A07000000000400000010070200000005000000060B0000000006)) (prints 5 23 (
     values 0 StructField 0 4 ∷ first 9 Context (on 14) 0 ∷ values 12 WeakRefToRef 0 0 ∷ values 13 This 0 0 ∷ values 14 ObjectField 0 5 ∷ []))
     -- Conditional: else part; past it
-    ∷ row (stageOf (bytes 42 0x010000002500000000200000001C01000000170900000003020F01000000060B01000000070000000101)) (prints 4 16 (
+    ∷ example (stageOf (bytes 42 0x010000002500000000200000001C01000000170900000003020F01000000060B01000000070000000101)) (prints 4 16 (
     both 0 Conditional (on 15) (on 16) ∷ values 5 TrueConst 0 0 ∷ values 6 Local 0 7 ∷ values 15 Nop 0 0 ∷ []))
     -- DynCast, Index and Assign
-    ∷ row (stageOf (bytes 55 0x0100000032000000002D000000290100000024060000000B0A000000080100000001010000001008000000000900000001010000000101)) (prints 6 23 (
+    ∷ example (stageOf (bytes 55 0x0100000032000000002D000000290100000024060000000B0A000000080100000001010000001008000000000900000001010000000101)) (prints 6 23 (
     values 0 Assign 0 0 ∷ values 1 DynamicCast 1 8 ∷ values 11 Nop 0 0 ∷ values 12 StaticArrayElement 0 9 ∷ values 21 Nop 0 0 ∷
     values 22 Nop 0 0 ∷ []))
     -- RefToWeakRef: its index is ignored
-    ∷ row (stageOf (bytes 36 0x010000001F000000001A0000001601000000110C1E000100000005000000050000000101)) (prints 2 2 (
+    ∷ example (stageOf (bytes 36 0x010000001F000000001A0000001601000000110C1E000100000005000000050000000101)) (prints 2 2 (
     values 0 RefToWeakRef 0 0 ∷ values 1 Nop 0 0 ∷ []))
+    -- and so is that of IsDefined
+    ∷ example (stageOf (bytes 31 0x010000001A000000001500000011010000000C0C2000000000000500000000)) (prints 1 1 (
+    values 0 RefToBool 0 0 ∷ []))
+    -- IntEnum and LongIntEnum: sizes 4 and 8
+    ∷ example (stageOf (bytes 52 0x010000002F000000002A00000011010000000C0C140001000000050000000000000011010000000C0C1500010000000500000000)) (prints 2 20 (
+    values 0 I32ToEnum 4 5 ∷ values 10 I32ToEnum 8 5 ∷ []))
+    -- local form 3: the ObjectField of a capture
+    ∷ example (stageOf (bytes 25 0x0100000014000000000F0000000B01000000060B0300000004)) (prints 1 9 (
+    values 0 ObjectField 0 4 ∷ []))
     -- NameOf
-    ∷ row (stageOf (bytes 31 0x010000001A000000001500000011010000000C0C2100010000000500000000)) (prints 1 9 (
+    ∷ example (stageOf (bytes 31 0x010000001A000000001500000011010000000C0C2100010000000500000000)) (prints 1 9 (
     values 0 CNameConst 0 5 ∷ []))
     -- a closure call: Context lands on its InvokeVirtual
-    ∷ row (stageOf (bytes 45 0x010000002800000000230000001F010000001A10000000060B000000000000000006004D000000050000000101)) (prints 5 21 (
+    ∷ example (stageOf (bytes 45 0x010000002800000000230000001F010000001A10000000060B000000000000000006004D000000050000000101)) (prints 5 21 (
     first 0 Context (on 4) 0 ∷ values 3 This 0 0 ∷ invokes 4 InvokeVirtual (on 17) 77 0 6 ∷ values 19 Nop 0 0 ∷ values 20 ParamEnd 0 0 ∷ []))
+    -- its labels: the Context's, then those of the closure, here a field's, then its exit
+    ∷ example (labelledOf (bytes 45 0x010000002800000000230000001F010000001A100000000B070100000004000000010100000006004D00000000)) (labels 6 32 (16 ∷ 16 ∷ 32 ∷ []) (
+    first 0 Context (on 0) 0 ∷ first 3 Context (on 1) 0 ∷ values 6 Nop 0 0 ∷ values 7 ObjectField 0 4 ∷
+    invokes 16 InvokeVirtual (on 2) 77 0 6 ∷ values 31 ParamEnd 0 0 ∷ []))
     -- the closure itself a call
-    ∷ row (stageOf (bytes 51 0x010000002E000000002900000025010000002010000000110D0000000100000002000B01000000000000000006004D00000000)) (prints 5 35 (
+    ∷ example (stageOf (bytes 51 0x010000002E000000002900000025010000002010000000110D0000000100000002000B01000000000000000006004D00000000)) (prints 5 35 (
     first 0 Context (on 19) 0 ∷ invokes 3 InvokeStatic (on 16) 11 0 1 ∷ values 18 ParamEnd 0 0 ∷ invokes 19 InvokeVirtual (on 16) 77 0 6 ∷
     values 34 ParamEnd 0 0 ∷ []))
     -- an instance call by weak reference, a Skip and an absent parameter
-    ∷ row (stageOf (bytes 57 0x0100000034000000002F0000002B01000000260F01000000060B02000000040000000500000006000708030100010000000700000003020F01)) (prints 9 35 (
+    ∷ example (stageOf (bytes 57 0x0100000034000000002F0000002B01000000260F01000000060B02000000040000000500000006000708030100010000000700000003020F01)) (prints 9 35 (
     first 0 Context (on 35) 0 ∷ values 3 WeakRefToRef 0 0 ∷ values 4 Param 0 4 ∷ invokes 13 InvokeStatic (on 22) 7 0 5 ∷
     first 28 Skip (on 4) 0 ∷ values 31 TrueConst 0 0 ∷ values 32 Nop 0 0 ∷ values 33 Nop 0 0 ∷ values 34 ParamEnd 0 0 ∷ []))
     -- a static call: a label that nothing carries
-    ∷ row (labelledOf (bytes 36 0x010000001F000000001A0000001601000000110E00000005000000060007000000000000)) (labels 2 16 (16 ∷ 16 ∷ []) (
+    ∷ example (labelledOf (bytes 36 0x010000001F000000001A0000001601000000110E00000005000000060007000000000000)) (labels 2 16 (16 ∷ 16 ∷ []) (
     invokes 0 InvokeVirtual (on 1) 7 0 6 ∷ values 15 ParamEnd 0 0 ∷ []))
     -- ForceStatic: InvokeStatic with the function
-    ∷ row (stageOf (bytes 36 0x010000001F000000001A0000001601000000110E00000005000000060007080000000000)) (prints 2 16 (
+    ∷ example (stageOf (bytes 36 0x010000001F000000001A0000001601000000110E00000005000000060007080000000000)) (prints 2 16 (
     invokes 0 InvokeStatic (on 16) 7 0 5 ∷ values 15 ParamEnd 0 0 ∷ []))
     -- an absent short-circuit parameter: a Nop and no Skip
-    ∷ row (stageOf (bytes 37 0x0100000020000000001B0000001701000000120D0000000500000006000701010100000000)) (prints 3 17 (
+    ∷ example (stageOf (bytes 37 0x0100000020000000001B0000001701000000120D0000000500000006000701010100000000)) (prints 3 17 (
     invokes 0 InvokeStatic (on 17) 7 0 5 ∷ values 15 Nop 0 0 ∷ values 16 ParamEnd 0 0 ∷ []))
     -- a flagged argument: the second of two
-    ∷ row (stageOf (bytes 64 0x010000003B000000003600000032010000002D0D00000001000000020003000200000000001A0000000101000000110C1C000100000007000000050000000101)) (prints 5 27 (
+    ∷ example (stageOf (bytes 64 0x010000003B000000003600000032010000002D0D00000001000000020003000200000000001A0000000101000000110C1C000100000007000000050000000101)) (prints 5 27 (
     invokes 0 InvokeVirtual (on 27) 3 2 2 ∷ values 15 Nop 0 0 ∷ values 16 AsRef 0 7 ∷ values 25 Nop 0 0 ∷ values 26 ParamEnd 0 0 ∷ []))
     -- AsRef of a Deref is not flagged
-    ∷ row (stageOf (bytes 74 0x010000004500000000400000003C01000000370D0000000100000002000300010000000025000000210C1C00010000000700000015000000110C1D000100000007000000050000000101)) (prints 5 35 (
+    ∷ example (stageOf (bytes 74 0x010000004500000000400000003C01000000370D0000000100000002000300010000000025000000210C1C00010000000700000015000000110C1D000100000007000000050000000101)) (prints 5 35 (
     invokes 0 InvokeVirtual (on 35) 3 0 2 ∷ values 15 AsRef 0 7 ∷ values 24 Deref 0 7 ∷ values 33 Nop 0 0 ∷ values 34 ParamEnd 0 0 ∷ []))
     -- the walk refuses
     -- a flagged argument at index 16: place that argument, extra 17
-    ∷ row (stageOf (unitOf (expression (freeCallOf 20 (nopNodes 16 ++ (asRefNode 0 ++ nopNodes 3)))))) (refuses 13 136 17)
+    ∷ example (stageOf (unitOf (expression (freeCallOf 20 (nopNodes 16 ++ (asRefNode 0 ++ nopNodes 3)))))) (refuses 13 136 17)
     -- flagged arguments at index 0 to 16 that are refused by 14 too: 13 is first
-    ∷ row (stageOf (unitOf (expression (freeCallOf 17 (times 17 (asRefNode 1)))))) (refuses 13 389 17)
-    -- Construct with 256
-    ∷ row (stageOf (unitOf (expression (nodeOf 5 (bytes 4 7 ++ runOf (nopNodes 256)))))) (refuses 12 15 256)
+    ∷ example (stageOf (unitOf (expression (freeCallOf 17 (times 17 (asRefNode 1)))))) (refuses 13 389 17)
+    -- Construct with 256: 12 comes before the arguments, of which the first would be refused with 14
+    ∷ example (stageOf (unitOf (expression (nodeOf 5 (bytes 4 7 ++ runOf (bytes 16 0x0000000C0C2000010000000700000000 ++ nopNodes 255)))))) (refuses 12 15 256)
     -- an intrinsic with a short-circuit mark
-    ∷ row (stageOf (bytes 58 0x010000003500000000300000002C01000000270D0000000100000002000300010000000015000000110C1C010100000007000000050000000101)) (refuses 14 37 0)
+    ∷ example (stageOf (bytes 58 0x010000003500000000300000002C01000000270D0000000100000002000300010000000015000000110C1C010100000007000000050000000101)) (refuses 14 37 0)
     -- an intrinsic with a type argument too many
-    ∷ row (stageOf (bytes 36 0x010000001F000000001A0000001601000000110C20000100000007000000050000000101)) (refuses 14 15 0)
+    ∷ example (stageOf (bytes 36 0x010000001F000000001A0000001601000000110C20000100000007000000050000000101)) (refuses 14 15 0)
     -- and with one too few
-    ∷ row (stageOf (bytes 36 0x010000001F000000001A0000001601000000110C1C000000000007000000050000000101)) (refuses 14 15 0)
+    ∷ example (stageOf (bytes 36 0x010000001F000000001A0000001601000000110C1C000000000007000000050000000101)) (refuses 14 15 0)
     -- with a mid default all matchers come before all blocks: the second matcher's 14 is met before the first block's 11
-    ∷ row (stageOf (bytes 71 0x0100000042000000003D000000390500000009000000010100000000010000002200000001010000000500000001090000000C0C20000100000007000000000000000000000000)) (refuses 14 47 0)
+    ∷ example (stageOf (bytes 71 0x0100000042000000003D000000390500000009000000010100000000010000002200000001010000000500000001090000000C0C20000100000007000000000000000000000000)) (refuses 14 47 0)
     -- and the default block before case default_index: of two continues, the one in the default is met first
-    ∷ row (stageOf (bytes 65 0x010000003C000000003700000033050000000900000001010000000101000000170000000101000000000000000101000000050000000109000000050000000109)) (refuses 11 60 0)
+    ∷ example (stageOf (bytes 65 0x010000003C000000003700000033050000000900000001010000000101000000170000000101000000000000000101000000050000000109000000050000000109)) (refuses 11 60 0)
     -- 14 comes before the arguments
-    ∷ row (stageOf (bytes 47 0x010000002A000000002500000021010000001C0C20000100000007000000100000000C0C2000010000000700000000)) (refuses 14 15 0)
+    ∷ example (stageOf (bytes 47 0x010000002A000000002500000021010000001C0C20000100000007000000100000000C0C2000010000000700000000)) (refuses 14 15 0)
     -- an instance call's receiver comes before its flags: 14 of the receiver, not 13
-    ∷ row (stageOf (unitOf (expression (instanceCallOf 17 (bytes 16 0x0000000C0C2000010000000700000000) (times 17 (asRefNode 0)))))) (refuses 14 21 0)
+    ∷ example (stageOf (unitOf (expression (instanceCallOf 17 (bytes 16 0x0000000C0C2000010000000700000000) (times 17 (asRefNode 0)))))) (refuses 14 21 0)
     -- reading refuses: 1, the front
     -- under 6 bytes
-    ∷ row (stageOf (bytes 5 0x0100000000)) (refuses 1 0 0)
+    ∷ example (stageOf (bytes 5 0x0100000000)) (refuses 1 0 0)
     -- version
-    ∷ row (stageOf (bytes 6 0x020000000100)) (refuses 1 0 0)
+    ∷ example (stageOf (bytes 6 0x020000000100)) (refuses 1 0 0)
     -- length
-    ∷ row (stageOf (bytes 6 0x010000000200)) (refuses 1 0 0)
+    ∷ example (stageOf (bytes 6 0x010000000200)) (refuses 1 0 0)
     -- return byte
-    ∷ row (stageOf (bytes 6 0x010000000102)) (refuses 1 0 0)
+    ∷ example (stageOf (bytes 6 0x010000000102)) (refuses 1 0 0)
     -- 3, what does not fit, and what is left over
     -- no block
-    ∷ row (stageOf (bytes 6 0x010000000100)) (refuses 3 6 0)
+    ∷ example (stageOf (bytes 6 0x010000000100)) (refuses 3 6 0)
     -- the block runs past the unit
-    ∷ row (stageOf (bytes 10 0x01000000050000000001)) (refuses 3 6 0)
+    ∷ example (stageOf (bytes 10 0x01000000050000000001)) (refuses 3 6 0)
     -- a byte after the block
-    ∷ row (stageOf (bytes 11 0x0100000006000000000000)) (refuses 3 6 0)
+    ∷ example (stageOf (bytes 11 0x0100000006000000000000)) (refuses 3 6 0)
     -- three bytes left in the block: a node without a length
-    ∷ row (stageOf (bytes 13 0x01000000080000000003000000)) (refuses 3 10 0)
+    ∷ example (stageOf (bytes 13 0x01000000080000000003000000)) (refuses 3 10 0)
     -- a node without a kind
-    ∷ row (stageOf (bytes 14 0x0100000009000000000400000000)) (refuses 3 10 0)
+    ∷ example (stageOf (bytes 14 0x0100000009000000000400000000)) (refuses 3 10 0)
     -- a node past its holder
-    ∷ row (stageOf (bytes 15 0x010000000A00000000050000000208)) (refuses 3 10 0)
+    ∷ example (stageOf (bytes 15 0x010000000A00000000050000000208)) (refuses 3 10 0)
     -- bytes left in a Break
-    ∷ row (stageOf (bytes 16 0x010000000B0000000006000000020800)) (refuses 3 10 0)
+    ∷ example (stageOf (bytes 16 0x010000000B0000000006000000020800)) (refuses 3 10 0)
     -- a missing expression: a node where it would begin
-    ∷ row (stageOf (bytes 15 0x010000000A00000000050000000101)) (refuses 3 15 0)
+    ∷ example (stageOf (bytes 15 0x010000000A00000000050000000101)) (refuses 3 15 0)
     -- a missing block: its own place
-    ∷ row (stageOf (bytes 20 0x010000000F000000000A00000006030000000101)) (refuses 3 20 0)
+    ∷ example (stageOf (bytes 20 0x010000000F000000000A00000006030000000101)) (refuses 3 20 0)
     -- a condition without its block
-    ∷ row (stageOf (bytes 25 0x0100000014000000000F0000000B0400000005000000010100)) (refuses 3 24 0)
+    ∷ example (stageOf (bytes 25 0x0100000014000000000F0000000B0400000005000000010100)) (refuses 3 24 0)
     -- a missing parameter mark
-    ∷ row (stageOf (bytes 34 0x010000001D000000001800000014010000000F0D0000000100000002000100030001)) (refuses 3 15 0)
+    ∷ example (stageOf (bytes 34 0x010000001D000000001800000014010000000F0D0000000100000002000100030001)) (refuses 3 15 0)
     -- a constant cut short
-    ∷ row (stageOf (bytes 24 0x0100000013000000000E0000000A01000000050209000000)) (refuses 3 15 0)
+    ∷ example (stageOf (bytes 24 0x0100000013000000000E0000000A01000000050209000000)) (refuses 3 15 0)
     -- a condition that runs past its While: the holder is the While, and the place is the condition's
-    ∷ row (stageOf (bytes 25 0x0100000014000000000F000000060300000002010000000108)) (refuses 3 15 0)
+    ∷ example (stageOf (bytes 25 0x0100000014000000000F000000060300000002010000000108)) (refuses 3 15 0)
     -- 2, values that are not listed
     -- statement kind 0
-    ∷ row (stageOf (bytes 15 0x010000000A00000000050000000100)) (refuses 2 10 0)
+    ∷ example (stageOf (bytes 15 0x010000000A00000000050000000100)) (refuses 2 10 0)
     -- statement kind 11
-    ∷ row (stageOf (bytes 15 0x010000000A0000000005000000010B)) (refuses 2 10 0)
+    ∷ example (stageOf (bytes 15 0x010000000A0000000005000000010B)) (refuses 2 10 0)
     -- expression kind 17
-    ∷ row (stageOf (bytes 20 0x010000000F000000000A00000006010000000111)) (refuses 2 15 0)
+    ∷ example (stageOf (bytes 20 0x010000000F000000000A00000006010000000111)) (refuses 2 15 0)
     -- a mark of 2
-    ∷ row (stageOf (bytes 20 0x010000000F000000000A00000006040000000002)) (refuses 2 10 0)
+    ∷ example (stageOf (bytes 20 0x010000000F000000000A00000006040000000002)) (refuses 2 10 0)
     -- a bad mark before a missing one
-    ∷ row (stageOf (bytes 34 0x010000001D000000001800000014010000000F0D0000000100000002000100030002)) (refuses 2 15 0)
+    ∷ example (stageOf (bytes 34 0x010000001D000000001800000014010000000F0D0000000100000002000100030002)) (refuses 2 15 0)
     -- a bad mark before a bad run
-    ∷ row (stageOf (bytes 30 0x0100000019000000001400000010050000000100000001010000000002FF)) (refuses 2 10 0)
+    ∷ example (stageOf (bytes 30 0x0100000019000000001400000010050000000100000001010000000002FF)) (refuses 2 10 0)
     -- default byte 23
-    ∷ row (stageOf (bytes 20 0x010000000F000000000A00000006070000000117)) (refuses 2 10 0)
+    ∷ example (stageOf (bytes 20 0x010000000F000000000A00000006070000000117)) (refuses 2 10 0)
     -- const byte 16
-    ∷ row (stageOf (bytes 21 0x0100000010000000000B0000000701000000020210)) (refuses 2 15 0)
+    ∷ example (stageOf (bytes 21 0x0100000010000000000B0000000701000000020210)) (refuses 2 15 0)
     -- a Bool of 2
-    ∷ row (stageOf (bytes 22 0x0100000011000000000C000000080100000003020F02)) (refuses 2 15 0)
+    ∷ example (stageOf (bytes 22 0x0100000011000000000C000000080100000003020F02)) (refuses 2 15 0)
     -- field form 3
-    ∷ row (stageOf (bytes 21 0x0100000010000000000B0000000701000000020703)) (refuses 2 15 0)
+    ∷ example (stageOf (bytes 21 0x0100000010000000000B0000000701000000020703)) (refuses 2 15 0)
     -- local form 4
-    ∷ row (stageOf (bytes 21 0x0100000010000000000B0000000701000000020B04)) (refuses 2 15 0)
+    ∷ example (stageOf (bytes 21 0x0100000010000000000B0000000701000000020B04)) (refuses 2 15 0)
     -- intrinsic code 34
-    ∷ row (stageOf (bytes 21 0x0100000010000000000B0000000701000000020C22)) (refuses 2 15 0)
+    ∷ example (stageOf (bytes 21 0x0100000010000000000B0000000701000000020C22)) (refuses 2 15 0)
     -- flag byte 16
-    ∷ row (stageOf (bytes 36 0x010000001F000000001A0000001601000000110D00000001000000020003100000000000)) (refuses 2 15 0)
+    ∷ example (stageOf (bytes 36 0x010000001F000000001A0000001601000000110D00000001000000020003100000000000)) (refuses 2 15 0)
     -- 4, depth
     -- a While at depth 200 with no condition: depth comes before what is missing
-    ∷ row (stageOf (unitOf (nestBlocks 199 5 ++ nodeOf 3 []))) (refuses 4 1806 0)
+    ∷ example (stageOf (unitOf (nestBlocks 199 5 ++ nodeOf 3 []))) (refuses 4 1806 0)
     -- 5, more arguments than parameters, after all else of the call
     -- one too many
-    ∷ row (stageOf (bytes 47 0x010000002A000000002500000021010000001C0D000000010000000200030001000000000A00000001010000000101)) (refuses 5 15 0)
+    ∷ example (stageOf (bytes 47 0x010000002A000000002500000021010000001C0D000000010000000200030001000000000A00000001010000000101)) (refuses 5 15 0)
     -- bytes left come first
-    ∷ row (stageOf (bytes 48 0x010000002B000000002600000022010000001D0D000000010000000200030001000000000A0000000101000000010100)) (refuses 3 15 0)
+    ∷ example (stageOf (bytes 48 0x010000002B000000002600000022010000001D0D000000010000000200030001000000000A0000000101000000010100)) (refuses 3 15 0)
     -- faults inside come first
-    ∷ row (stageOf (bytes 47 0x010000002A000000002500000021010000001C0D000000010000000200030001000000000A00000001010000000111)) (refuses 2 42 0)
+    ∷ example (stageOf (bytes 47 0x010000002A000000002500000021010000001C0D000000010000000200030001000000000A00000001010000000111)) (refuses 2 42 0)
     -- the whole unit is read before the walk
-    ∷ row (stageOf (bytes 20 0x010000000F000000000A0000000108000000010C)) (refuses 2 15 0)
+    ∷ example (stageOf (bytes 20 0x010000000F000000000A0000000108000000010C)) (refuses 2 15 0)
     -- room, listings and resolving
     -- (a) needs 5 + 18 * 4 bytes
-    ∷ row (roomOf (bytes 31 0x010000001A0000000015000000110300000003020F00000000050000000108) 76 2) (refuses 20 0 0)
+    ∷ example (roomOf (bytes 31 0x010000001A0000000015000000110300000003020F00000000050000000108) 76 2) (refuses 20 0 0)
     -- and 2 words; 20 comes before 21
-    ∷ row (roomOf (bytes 31 0x010000001A0000000015000000110300000003020F00000000050000000108) 77 1) (refuses 21 0 0)
+    ∷ example (roomOf (bytes 31 0x010000001A0000000015000000110300000003020F00000000050000000108) 77 1) (refuses 21 0 0)
     -- and no more
-    ∷ row (roomOf (bytes 31 0x010000001A0000000015000000110300000003020F00000000050000000108) 77 2) (fits 4 2)
+    ∷ example (roomOf (bytes 31 0x010000001A0000000015000000110300000003020F00000000050000000108) 77 2) (fits 4 2)
     -- a listing of no record needs 5 bytes
-    ∷ row (roomOf (bytes 10 0x01000000050000000000) 4 0) (refuses 20 0 0)
+    ∷ example (roomOf (bytes 10 0x01000000050000000000) 4 0) (refuses 20 0 0)
     -- a slice under 5 bytes
-    ∷ row (viewOf (bytes 4 0x01000000) 0) (refuses 30 0 0)
+    ∷ example (viewOf (bytes 4 0x01000000) 0) (refuses 30 0 0)
     -- a part record
-    ∷ row (viewOf (bytes 6 0x010000000100) 0) (refuses 30 0 0)
+    ∷ example (viewOf (bytes 6 0x010000000100) 0) (refuses 30 0 0)
     -- a tag that the base does not emit
-    ∷ row (viewOf (listingOf 0x15 0 0) 0) (refuses 30 0 0)
+    ∷ example (viewOf (listingOf 0x15 0 0) 0) (refuses 30 0 0)
     -- an unused field that is not 0
-    ∷ row (viewOf (listingOf Nop 0 1) 0) (refuses 30 0 0)
+    ∷ example (viewOf (listingOf Nop 0 1) 0) (refuses 30 0 0)
     -- a used field is not checked further: an I8Const with high bits
-    ∷ row (viewOf (listingOf I8Const 0 0x100) 0) (part (bytes 18 0x040000000000000000000000000000000100))
+    ∷ example (viewOf (listingOf I8Const 0 0x100) 0) (part (bytes 18 0x040000000000000000000000000000000100))
     -- record 1 of one
-    ∷ row (viewOf (listingOf Nop 0 0) 1) (refuses 22 1 0)
+    ∷ example (viewOf (listingOf Nop 0 0) 1) (refuses 22 1 0)
     -- a Jump to a label that is marked 3
-    ∷ row (resolveOf (listingOf Jump 0 0) (3 ∷ []) 23) (prints 1 3 (first 0 Jump (on 3) 0 ∷ []))
+    ∷ example (resolveOf (listingOf Jump 0 0) (3 ∷ []) 23) (prints 1 3 (first 0 Jump (on 3) 0 ∷ []))
     -- outside the table
-    ∷ row (resolveOf (listingOf Jump 1 0) (3 ∷ []) 23) (refuses 31 0 0)
+    ∷ example (resolveOf (listingOf Jump 1 0) (3 ∷ []) 23) (refuses 31 0 0)
     -- unmarked
-    ∷ row (resolveOf (listingOf Jump 0 0) (4294967295 ∷ []) 23) (refuses 31 0 0)
+    ∷ example (resolveOf (listingOf Jump 0 0) (4294967295 ∷ []) 23) (refuses 31 0 0)
     -- too distant: before the room
-    ∷ row (resolveOf (listingOf Jump 0 0) (4294967294 ∷ []) 0) (refuses 32 0 0)
+    ∷ example (resolveOf (listingOf Jump 0 0) (4294967294 ∷ []) 0) (refuses 32 0 0)
     -- the first too distant distance
-    ∷ row (resolveOf (listingOf Jump 0 0) (32768 ∷ []) 23) (refuses 32 0 0)
+    ∷ example (resolveOf (listingOf Jump 0 0) (32768 ∷ []) 23) (refuses 32 0 0)
     -- a byte too few
-    ∷ row (resolveOf (listingOf Jump 0 0) (32767 ∷ []) 22) (refuses 20 0 0)
+    ∷ example (resolveOf (listingOf Jump 0 0) (32767 ∷ []) 22) (refuses 20 0 0)
     ∷ []
 
 -- 4. The theorem: every question of the table has the reply that stands beside it
 
 pub examples : map (λ r. answer (r .question)) table ≡ map (λ r. r .reply) table
-unfolding table answer replyOf replyPrinted runOf nodeOf unitOf expression times nopNodes asRefNode callOf freeCallOf instanceCallOf nestBlocks listingOf bind onward checked number bytes sizes tagSize emitted rows rowOf defaultTags constTags constTag constWidths intrinsics intrinsicOf recordBytes recordAt unused0 goodRecord exprs block branchesOf casesOf lengthE lengthC isPresent placeOf _>>=_ give refuse unsigned small marks room span items filling run head ended node pick asNop payload asConst asNull asNewInstance asConstruct asAssign asField asIndex asConditional asDynCast asLocal asIntrinsic callee arguments asFreeCall asStaticCall asInstanceCall asClosureCall exprKinds exprBody parseExpr asExpr asNest asWhile arm blockIf asBranches asSwitch asInitArray asInitDefault asBreak asContinue returnIf asReturn stmtKinds stmtBody parseStmt frontGood parseUnit many emits andThen unmarked labelLimit step execute require isPrvalue onePrvalue isFlagged flagsOf requireFlags weakToRef nullTag elementTag localTag lowerField lowerArg nops emitInvoke emitCall lowerExpr lowerElements lowerArray primitiveDefault defaultInstrs lowerReturn lowerReturnNothing jumpTo midDefault endsGroup inGroup lowerStmt recordsBytes listingBytes countOf listingFront recordsFrom allGood readListing view inRange word signed distanceOf resolveField resolveRecord resolveRecords resolve walked lowered lowerInto stage linesFrom totalSize printed
+unfolding table answer replyOf replyPrinted runOf nodeOf unitOf expression times nopNodes asRefNode callOf freeCallOf instanceCallOf nestBlocks listingOf bind onward checked number bytes sizes tagSize emitted rows rowOf defaultTags constTags constTag constWidths intrinsics intrinsicOf size recordBytes recordAt unused0 goodRecord exprsOf blockOf branchesOf casesOf lengthExprs lengthCases isPresent placeOf _>>=_ give unknownKind unsigned byteBelow markBytes room span items filling run head ended node pick asNop payload asConst asNull asNewInstance asConstruct asAssign asField asIndex asConditional asDynCast asLocal asIntrinsic callee arguments asFreeCall asStaticCall asInstanceCall asClosureCall exprKinds exprBody parseExpr asExpr asBlock asWhile arm blockIf asBranches asSwitch asInitArray asInitDefault asBreak asContinue returnIf asReturn stmtKinds stmtBody parseStmt frontGood parseUnit many emits unmarked labelLimit step execute require isPrvalue onePrvalue isFlagged flagsOf requireFlags weakToRef nullTag elementTag localTag lowerField lowerArg nops emitInvoke emitCall lowerExpr lowerElements lowerArray primitiveDefault defaultInstrs lowerReturn lowerReturnNothing jumpTo midDefault endsGroup inGroup lowerStmt recordsBytes listingBytes countOf listingFront recordsFrom allGood readListing view inRange word signed distanceOf resolveField resolveRecord resolveRecords resolve lowered lowerInto stage linesFrom totalSize printed
 examples = refl

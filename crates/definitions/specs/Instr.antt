@@ -18,8 +18,8 @@ pub record Instr : Type 0 where
   -- "an index or a constant's own bits, zero-extended; EnumConst has the enum in the high 32 bits"
   pub value : ℕ
 
--- the virtual size of a record
-abbrev pub size : Instr → ℕ
+-- the virtual size of a record: that of its tag
+unfoldable pub size : Instr → ℕ
 size i = tagSize (i .tag)
 
 abbrev pub recordLength : ℕ

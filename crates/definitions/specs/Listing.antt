@@ -31,11 +31,15 @@ listingBytes is = 1 ∷ (bytes 4 (recordLength * length is) ++ recordsBytes is)
 unfoldable pub countOf : (s : List ℕ) → ℕ
 countOf s = (length s - frontLength) / recordLength
 
--- version, length, a part record, over 1,048,576 records
+-- "over 1,048,576 records"
+abbrev pub recordLimit : ℕ
+recordLimit = 1048576
+
+-- version, length, a part record, too many records
 unfoldable pub listingFront : (s : List ℕ) → Bool
 listingFront s =
     leb frontLength (length s) && eqb (getD s 0 0) 1 && eqb (frontLength + number 4 s 1) (length s)
-    && eqb ((length s - frontLength) % recordLength) 0 && leb (countOf s) 1048576
+    && eqb ((length s - frontLength) % recordLength) 0 && leb (countOf s) recordLimit
 
 -- n records from `at` on
 unfoldable pub recordsFrom : (n : ℕ) (s : List ℕ) (at : ℕ) → List Instr

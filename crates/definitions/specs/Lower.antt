@@ -5,10 +5,11 @@ use mathlib.Core.List.{List, [], _∷_, _++_}
 use mathlib.Core.Option.{Option, none, some}
 use lib.Dec.{leb, ltb, eqb}
 use lib.ListN.{getD}
+use Rattle.definitions.specs.Answer.{Result}
 use Rattle.definitions.specs.Tag.{Nop, Null, I8Const, U64Const, Assign, Local, Param, ObjectField, Switch, SwitchLabel, SwitchDefault, Jump, JumpIfFalse, Skip, Conditional, Construct, InvokeStatic, InvokeVirtual, ParamEnd, Return, StructField, Context, New, This, ArrayClear, ArrayResize, ArrayElement, StaticArrayElement, I32ToEnum, DynamicCast, WeakRefToRef, WeakRefNull, defaultTags, constTag, intrinsicOf, codeAsRef, codeDeref}
 use Rattle.definitions.specs.Instr.{Instr, plain}
-use Rattle.definitions.specs.Tree.{Callee, Expr, Exprs, Stmt, Block, Branches, Cases, Default, Script, nop, const, null, newInstance, construct, assign, field, element, conditional, dynCast, local, intrinsic, freeCall, staticCall, instanceCall, closureCall, enil, econs, expr, nest, while, branches, switch, initArray, initDefault, break, continue, return, returnNothing, bnil, bcons, brnil, brcons, cnil, ccons, absent, present, lengthE, lengthC, isPresent, placeOf}
-use Rattle.definitions.specs.Code.{Code, mark, emit, refuse, done, act, _then_, label, many, emits, Outcome, execute, start}
+use Rattle.definitions.specs.Tree.{Callee, Expr, Exprs, Stmt, Block, Branches, Cases, Default, Script, nop, const, null, newInstance, construct, assign, field, index, conditional, dynCast, local, intrinsic, freeCall, staticCall, instanceCall, closureCall, enil, econs, expr, block, while, branches, switch, initArray, initDefault, break, continue, return, returnNothing, bnil, bcons, brnil, brcons, cnil, ccons, absent, present, lengthExprs, lengthCases, isPresent, placeOf}
+use Rattle.definitions.specs.Code.{Code, mark, emit, refuse, done, act, _then_, label, many, emits, State, execute, start}
 
 -- 1. Instructions
 
@@ -46,7 +47,7 @@ isPrvalue (newInstance at c) = true
 isPrvalue (construct at c es) = true
 isPrvalue (assign at p e) = true
 isPrvalue (field at f n e) = false
-isPrvalue (element at d t a i) = false
+isPrvalue (index at d t a i) = false
 isPrvalue (conditional at c t e) = true
 isPrvalue (dynCast at c w e) = true
 isPrvalue (local at f i) = false
@@ -71,7 +72,7 @@ isFlagged (newInstance at c) = false
 isFlagged (construct at c es) = false
 isFlagged (assign at p e) = false
 isFlagged (field at f n e) = false
-isFlagged (element at d t a i) = false
+isFlagged (index at d t a i) = false
 isFlagged (conditional at c t e) = false
 isFlagged (dynCast at c w e) = false
 isFlagged (local at f i) = false
@@ -144,10 +145,10 @@ unfoldable mutual
   lowerExpr (newInstance at class) = instr New class
   -- "Construct with 256 or more" 12, "extra the count"
   lowerExpr (construct at class args) =
-      require (ltb (lengthE args) 256) 12 at (lengthE args) then act (emit (plain Construct (lengthE args) class)) then lowerExprs args
+      require (ltb (lengthExprs args) 256) 12 at (lengthExprs args) then act (emit (plain Construct (lengthExprs args) class)) then lowerExprs args
   lowerExpr (assign at p e) = instr Assign 0 then lowerExpr p then lowerExpr e
   lowerExpr (field at form name e) = lowerField at form name (lowerExpr e)
-  lowerExpr (element at dynamic type a i) = instr (elementTag dynamic) type then lowerExpr a then lowerExpr i
+  lowerExpr (index at dynamic type a i) = instr (elementTag dynamic) type then lowerExpr a then lowerExpr i
   lowerExpr (conditional at c t e) =
       label at λ else. label at λ exit.
       jumps Conditional else exit then lowerExpr c then lowerExpr t then act (mark else) then lowerExpr e then act (mark exit)
@@ -190,7 +191,7 @@ lowerElements (econs e es) l t i =
 unfoldable pub lowerArray : Exprs → (local type : ℕ) → Code
 lowerArray enil l t = done
 lowerArray (econs e es) l t =
-    emits (plain ArrayResize 0 t ∷ plain Local 0 l ∷ plain U64Const 0 (suc (lengthE es)) ∷ []) then lowerElements (econs e es) l t 0
+    emits (plain ArrayResize 0 t ∷ plain Local 0 l ∷ plain U64Const 0 (suc (lengthExprs es)) ∷ []) then lowerElements (econs e es) l t 0
 
 -- primitive number k of default bytes 5 to 21: the first four store the unit's index, the others 0; after the last there is no value
 unfoldable pub primitiveDefault : (k i : ℕ) → List Instr
@@ -220,20 +221,20 @@ lowerReturnNothing = instr Return 0 then instr Nop 0
 -- 5. Statements
 
 -- BlockSpan: the labels where break and continue go; and the unit's return byte
-pub record Scope : Type 0 where
-  pub onBreak : Option ℕ
-  pub onContinue : Option ℕ
+pub record BlockSpan : Type 0 where
+  pub breakTarget : Option ℕ
+  pub continueTarget : Option ℕ
   pub returns : ℕ
 
-abbrev pub outside : (returns : ℕ) → Scope
-outside r = record { onBreak = none; onContinue = none; returns = r }
+abbrev pub outside : (returns : ℕ) → BlockSpan
+outside r = record { breakTarget = none; continueTarget = none; returns = r }
 
-abbrev pub inLoop : (start end : ℕ) → Scope → Scope
-inLoop start end scope = record { onBreak = some end; onContinue = some start; returns = scope .returns }
+abbrev pub inLoop : (start end : ℕ) → BlockSpan → BlockSpan
+inLoop start end span = record { breakTarget = some end; continueTarget = some start; returns = span .returns }
 
 -- a switch takes break, and lets continue through to the loop
-abbrev pub inSwitch : (end : ℕ) → Scope → Scope
-inSwitch end scope = record { onBreak = some end; onContinue = scope .onContinue; returns = scope .returns }
+abbrev pub inSwitch : (end : ℕ) → BlockSpan → BlockSpan
+inSwitch end span = record { breakTarget = some end; continueTarget = span .continueTarget; returns = span .returns }
 
 -- "break without loop or switch; continue without loop" 10; 11
 unfoldable pub jumpTo : (number at : ℕ) → Option ℕ → Code
@@ -241,8 +242,8 @@ jumpTo number at none = act (refuse number at 0)
 jumpTo number at (some l) = jump Jump l
 
 -- "With a default and default_index below the case count"
-unfoldable pub midDefault : Default → (index : ℕ) → Cases → Bool
-midDefault d index cs = isPresent d && ltb index (lengthC cs)
+unfoldable pub midDefault : Default → (defaultIndex : ℕ) → Cases → Bool
+midDefault d defaultIndex cs = isPresent d && ltb defaultIndex (lengthCases cs)
 
 -- "A group runs to the first case whose block has a statement, or to the last case": does a case with this block, and these after it, end its group
 unfoldable pub endsGroup : Block → Cases → Bool
@@ -256,32 +257,32 @@ inGroup none at k = label at k
 inGroup (some body) at k = k body
 
 unfoldable mutual
-  pub lowerStmt : Stmt → Scope → Code
-  lowerStmt (expr at e) scope = lowerExpr e
-  lowerStmt (nest at b) scope = lowerBlock b scope
-  lowerStmt (while at c b) scope =
+  pub lowerStmt : Stmt → BlockSpan → Code
+  lowerStmt (expr at e) span = lowerExpr e
+  lowerStmt (block at b) span = lowerBlock b span
+  lowerStmt (while at c b) span =
       label at λ start. label at λ end.
-      act (mark start) then jump JumpIfFalse end then lowerExpr c then lowerBlock b (inLoop start end scope) then jump Jump start then act (mark end)
+      act (mark start) then jump JumpIfFalse end then lowerExpr c then lowerBlock b (inLoop start end span) then jump Jump start then act (mark end)
   -- "Branches makes 2 labels and one more per branch; the last `next` stays unmarked and uncarried"
-  lowerStmt (branches at bs d) scope =
+  lowerStmt (branches at bs d) span =
       label at λ next. label at λ exit.
-      lowerBranches bs at next exit scope then lowerDefault d scope then act (mark exit)
+      lowerBranches bs at next exit span then lowerDefault d span then act (mark exit)
   -- "Switch makes end, then first"; a mid default: "one body each, the default body, one `next` per case"; otherwise by groups
-  lowerStmt (switch at type e index cs d) scope =
+  lowerStmt (switch at type e defaultIndex cs d) span =
       label at λ end. label at λ first.
       emitSwitch type first then lowerExpr e then
-      cond (midDefault d index cs)
-      (label at λ body. many at (lengthC cs)
-      (lowerMatchers cs at first body then instr SwitchDefault 0 then jump Jump (body + lengthC cs) then
-      lowerBodies cs index body (body + lengthC cs) (lowerDefault d (inSwitch end scope)) (inSwitch end scope)))
-      (lowerCases cs at first none (inSwitch end scope) then lowerLast d (inSwitch end scope)) then
+      cond (midDefault d defaultIndex cs)
+      (label at λ body. many at (lengthCases cs)
+      (lowerMatchers cs at first body then instr SwitchDefault 0 then jump Jump (body + lengthCases cs) then
+      lowerBodies cs defaultIndex body (body + lengthCases cs) (lowerDefault d (inSwitch end span)) (inSwitch end span)))
+      (lowerCases cs at first none (inSwitch end span) then lowerLast d (inSwitch end span)) then
       act (mark end)
-  lowerStmt (initArray at l t es) scope = lowerArray es l t
-  lowerStmt (initDefault at l b i) scope = emits (defaultInstrs l b i)
-  lowerStmt (break at) scope = jumpTo 10 at (scope .onBreak)
-  lowerStmt (continue at) scope = jumpTo 11 at (scope .onContinue)
-  lowerStmt (return at e) scope = lowerReturn (scope .returns) (lowerExpr e)
-  lowerStmt (returnNothing at) scope = lowerReturnNothing
+  lowerStmt (initArray at l t es) span = lowerArray es l t
+  lowerStmt (initDefault at l b i) span = emits (defaultInstrs l b i)
+  lowerStmt (break at) span = jumpTo 10 at (span .breakTarget)
+  lowerStmt (continue at) span = jumpTo 11 at (span .continueTarget)
+  lowerStmt (return at e) span = lowerReturn (span .returns) (lowerExpr e)
+  lowerStmt (returnNothing at) span = lowerReturnNothing
 
   -- the labels of a switch with a mid default, all with their matchers; `body` is the label of the first case's body
   pub lowerMatchers : Cases → (at next body : ℕ) → Code
@@ -289,45 +290,45 @@ unfoldable mutual
   lowerMatchers (ccons m b cs) at next body =
       act (mark next) then label at λ next′. jumps SwitchLabel next′ body then lowerExpr m then lowerMatchers cs at next′ (body + 1)
 
-  -- then its blocks, the default before case `index`
-  pub lowerBodies : Cases → (index body dflt : ℕ) → (default : Code) → Scope → Code
-  lowerBodies cnil index body dflt default scope = done
-  lowerBodies (ccons m b cs) zero body dflt default scope =
-      act (mark dflt) then default then act (mark body) then lowerBlock b scope then lowerBlocks cs (body + 1) scope
-  lowerBodies (ccons m b cs) (suc index) body dflt default scope =
-      act (mark body) then lowerBlock b scope then lowerBodies cs index (body + 1) dflt default scope
+  -- then its blocks, the default before case `defaultIndex`
+  pub lowerBodies : Cases → (defaultIndex body dflt : ℕ) → (default : Code) → BlockSpan → Code
+  lowerBodies cnil defaultIndex body dflt default span = done
+  lowerBodies (ccons m b cs) zero body dflt default span =
+      act (mark dflt) then default then act (mark body) then lowerBlock b span then lowerBlocks cs (body + 1) span
+  lowerBodies (ccons m b cs) (suc defaultIndex) body dflt default span =
+      act (mark body) then lowerBlock b span then lowerBodies cs defaultIndex (body + 1) dflt default span
 
-  pub lowerBlocks : Cases → (body : ℕ) → Scope → Code
-  lowerBlocks cnil body scope = done
-  lowerBlocks (ccons m b cs) body scope = act (mark body) then lowerBlock b scope then lowerBlocks cs (body + 1) scope
+  pub lowerBlocks : Cases → (body : ℕ) → BlockSpan → Code
+  lowerBlocks cnil body span = done
+  lowerBlocks (ccons m b cs) body span = act (mark body) then lowerBlock b span then lowerBlocks cs (body + 1) span
 
   -- any other switch: each case's block after its matcher; a group's body is marked at its last case
-  pub lowerCases : Cases → (at next : ℕ) → (group : Option ℕ) → Scope → Code
-  lowerCases cnil at next group scope = act (mark next)
-  lowerCases (ccons m b cs) at next group scope =
+  pub lowerCases : Cases → (at next : ℕ) → (group : Option ℕ) → BlockSpan → Code
+  lowerCases cnil at next group span = act (mark next)
+  lowerCases (ccons m b cs) at next group span =
       inGroup group at λ body. act (mark next) then label at λ next′. jumps SwitchLabel next′ body then lowerExpr m then
       cond (endsGroup b cs)
-      (act (mark body) then lowerBlock b scope then lowerCases cs at next′ none scope)
-      (lowerCases cs at next′ (some body) scope)
+      (act (mark body) then lowerBlock b span then lowerCases cs at next′ none span)
+      (lowerCases cs at next′ (some body) span)
 
-  pub lowerLast : Default → Scope → Code
-  lowerLast absent scope = done
-  lowerLast (present b) scope = instr SwitchDefault 0 then lowerBlock b scope
+  pub lowerLast : Default → BlockSpan → Code
+  lowerLast absent span = done
+  lowerLast (present b) span = instr SwitchDefault 0 then lowerBlock b span
 
   -- `next` is the label of the first branch
-  pub lowerBranches : Branches → (at next exit : ℕ) → Scope → Code
-  lowerBranches brnil at next exit scope = done
-  lowerBranches (brcons c b bs) at next exit scope =
-      jump JumpIfFalse next then lowerExpr c then lowerBlock b scope then jump Jump exit then act (mark next) then
-      label at λ next′. lowerBranches bs at next′ exit scope
+  pub lowerBranches : Branches → (at next exit : ℕ) → BlockSpan → Code
+  lowerBranches brnil at next exit span = done
+  lowerBranches (brcons c b bs) at next exit span =
+      jump JumpIfFalse next then lowerExpr c then lowerBlock b span then jump Jump exit then act (mark next) then
+      label at λ next′. lowerBranches bs at next′ exit span
 
-  pub lowerDefault : Default → Scope → Code
-  lowerDefault absent scope = done
-  lowerDefault (present b) scope = lowerBlock b scope
+  pub lowerDefault : Default → BlockSpan → Code
+  lowerDefault absent span = done
+  lowerDefault (present b) span = lowerBlock b span
 
-  pub lowerBlock : Block → Scope → Code
-  lowerBlock bnil scope = done
-  lowerBlock (bcons s b) scope = lowerStmt s scope then lowerBlock b scope
+  pub lowerBlock : Block → BlockSpan → Code
+  lowerBlock bnil span = done
+  lowerBlock (bcons s b) span = lowerStmt s span then lowerBlock b span
 
 -- 6. A unit
 
@@ -335,5 +336,5 @@ abbrev pub codeOf : Script → Code
 codeOf u = lowerBlock (u .body) (outside (u .returns))
 
 -- the labelled instructions and the marks, or the refusal of the walk
-abbrev pub lower : Script → Outcome
+abbrev pub lower : Script → Result State
 lower u = execute (codeOf u) start

@@ -7,7 +7,7 @@ use lib.ListN.{length, getD}
 use Rattle.definitions.specs.Answer.{Answer, ok, refused, bind}
 use Rattle.definitions.specs.Bytes.{number}
 use Rattle.definitions.specs.Tag.{constWidths}
-use Rattle.definitions.specs.Tree.{Callee, Expr, Exprs, Stmt, Block, Default, Script, nop, const, null, newInstance, construct, assign, field, element, conditional, dynCast, local, intrinsic, freeCall, staticCall, instanceCall, closureCall, expr, nest, while, branches, switch, initArray, initDefault, break, continue, return, returnNothing, absent, present, exprs, block, branchesOf, casesOf}
+use Rattle.definitions.specs.Tree.{Callee, Expr, Exprs, Stmt, Block, Default, Script, nop, const, null, newInstance, construct, assign, field, index, conditional, dynCast, local, intrinsic, freeCall, staticCall, instanceCall, closureCall, expr, block, while, branches, switch, initArray, initDefault, break, continue, return, returnNothing, absent, present, exprsOf, blockOf, branchesOf, casesOf}
 
 -- from where a field begins to its value
 abbrev pub Parser : Type 0 → Type 0
@@ -20,8 +20,9 @@ _>>=_ p f = λ at. bind (p at) f
 unfoldable pub give : {A : Type 0} → A → Parser A
 give a = λ at. ok a at
 
-unfoldable pub refuse : {A : Type 0} → (number place extra : ℕ) → Parser A
-refuse n p x = λ at. refused n p x
+-- "unknown kind" 2, of the node at that place
+unfoldable pub unknownKind : {A : Type 0} → (node : ℕ) → Parser A
+unknownKind node = λ at. refused 2 node 0
 
 -- 1. Fields. `s` is the unit, `node` the place of the node that is read, `end` where it ends
 
@@ -39,22 +40,20 @@ u16 s node end = unsigned s node end 2
 abbrev pub u8 : (s : List ℕ) (node end : ℕ) → Parser ℕ
 u8 s node end = unsigned s node end 1
 
--- one byte below `bound`; "a field that fits but has a value not listed" 2
-unfoldable pub small : (s : List ℕ) (node end bound : ℕ) → Parser ℕ
-small s node end bound = do
-  v ← u8 s node end
-  λ at. elim (ltb v bound) [ true ↦ ok v at | false ↦ refused 2 node 0 ]
+-- one byte below `bound`, in the field at `at`; "a field that fits but has a value not listed" 2
+unfoldable pub byteBelow : (s : List ℕ) (node end bound : ℕ) → Parser ℕ
+byteBelow s node end bound = λ at. bind (u8 s node end at) (λ v next. elim (ltb v bound) [ true ↦ ok v next | false ↦ refused 2 node 0 ])
 
 -- "Marks are bytes 0 or 1"
-abbrev pub mark : (s : List ℕ) (node end : ℕ) → Parser ℕ
-mark s node end = small s node end 2
+abbrev pub markByte : (s : List ℕ) (node end : ℕ) → Parser ℕ
+markByte s node end = byteBelow s node end 2
 
 -- n marks, one field each
-unfoldable pub marks : (s : List ℕ) (node end n : ℕ) → Parser (List ℕ)
-marks s node end zero = give []
-marks s node end (suc n) = do
-  m ← mark s node end
-  ms ← marks s node end n
+unfoldable pub markBytes : (s : List ℕ) (node end n : ℕ) → Parser (List ℕ)
+markBytes s node end zero = give []
+markBytes s node end (suc n) = do
+  m ← markByte s node end
+  ms ← markBytes s node end n
   give (m ∷ ms)
 
 -- where n bytes from the cursor, which stays, end: within `end`; else 3
@@ -103,9 +102,9 @@ node s holder body = λ at. (do
   a ← body (h .0) at (h .1)
   ended at (h .1) a) at
 
--- the entry of a list at a kind; "unknown kind" 2
+-- the entry of a list at a kind
 unfoldable pub pick : {A : Type 0} → List (Parser A) → (at kind : ℕ) → Parser A
-pick [] at k = refuse 2 at 0
+pick [] at k = unknownKind at
 pick (p ∷ ps) at zero = p
 pick (p ∷ ps) at (suc k) = pick ps at k
 
@@ -116,17 +115,17 @@ asNop at = give (nop at)
 
 -- the payload of a const byte: a mark for Bool, else a number of its width
 unfoldable pub payload : (s : List ℕ) (at end byte : ℕ) → Parser ℕ
-payload s at end b = elim (eqb b 15) [ true ↦ mark s at end | false ↦ unsigned s at end (getD constWidths b 0) ]
+payload s at end b = elim (eqb b 15) [ true ↦ markByte s at end | false ↦ unsigned s at end (getD constWidths b 0) ]
 
 unfoldable pub asConst : (s : List ℕ) (at end : ℕ) → Parser Expr
 asConst s at end = do
-  b ← small s at end 16
+  b ← byteBelow s at end 16
   v ← payload s at end b
   give (const at b v)
 
 unfoldable pub asNull : (s : List ℕ) (at end : ℕ) → Parser Expr
 asNull s at end = do
-  w ← mark s at end
+  w ← markByte s at end
   give (null at w)
 
 unfoldable pub asNewInstance : (s : List ℕ) (at end : ℕ) → Parser Expr
@@ -138,7 +137,7 @@ unfoldable pub asConstruct : (s : List ℕ) → (ℕ → Parser Expr) → (at en
 asConstruct s child at end = do
   c ← u32 s at end
   xs ← run s end child
-  give (construct at c (exprs xs))
+  give (construct at c (exprsOf xs))
 
 unfoldable pub asAssign : (ℕ → Parser Expr) → (at end : ℕ) → Parser Expr
 asAssign child at end = do
@@ -148,18 +147,18 @@ asAssign child at end = do
 
 unfoldable pub asField : (s : List ℕ) → (ℕ → Parser Expr) → (at end : ℕ) → Parser Expr
 asField s child at end = do
-  f ← small s at end 3
+  f ← byteBelow s at end 3
   n ← u32 s at end
   e ← child end
   give (field at f n e)
 
 unfoldable pub asIndex : (s : List ℕ) → (ℕ → Parser Expr) → (at end : ℕ) → Parser Expr
 asIndex s child at end = do
-  d ← mark s at end
+  d ← markByte s at end
   t ← u32 s at end
   a ← child end
   i ← child end
-  give (element at d t a i)
+  give (index at d t a i)
 
 unfoldable pub asConditional : (ℕ → Parser Expr) → (at end : ℕ) → Parser Expr
 asConditional child at end = do
@@ -171,24 +170,24 @@ asConditional child at end = do
 unfoldable pub asDynCast : (s : List ℕ) → (ℕ → Parser Expr) → (at end : ℕ) → Parser Expr
 asDynCast s child at end = do
   c ← u32 s at end
-  w ← mark s at end
+  w ← markByte s at end
   e ← child end
   give (dynCast at c w e)
 
 unfoldable pub asLocal : (s : List ℕ) (at end : ℕ) → Parser Expr
 asLocal s at end = do
-  f ← small s at end 4
+  f ← byteBelow s at end 4
   i ← u32 s at end
   give (local at f i)
 
 unfoldable pub asIntrinsic : (s : List ℕ) → (ℕ → Parser Expr) → (at end : ℕ) → Parser Expr
 asIntrinsic s child at end = do
-  k ← small s at end 34
-  m ← mark s at end
+  k ← byteBelow s at end 34
+  m ← markByte s at end
   t ← u8 s at end
   i ← u32 s at end
   xs ← run s end child
-  give (intrinsic at k m t i (exprs xs))
+  give (intrinsic at k m t i (exprsOf xs))
 
 -- "function, name, u16 line, flag byte, parameter count byte, one mark a parameter"; flag bits from the lowest: final, static, native, ForceStatic
 unfoldable pub callee : (s : List ℕ) (at end : ℕ) → Parser Callee
@@ -196,9 +195,9 @@ callee s at end = do
   f ← u32 s at end
   n ← u32 s at end
   l ← u16 s at end
-  b ← small s at end 16
+  b ← byteBelow s at end 16
   k ← u8 s at end
-  ms ← marks s at end k
+  ms ← markBytes s at end k
   give (record { function = f; name = n; line = l; flags = b; params = ms })
 
 -- arguments up to the node's end; "after that, more arguments than parameters" 5
@@ -206,7 +205,7 @@ unfoldable pub arguments : (s : List ℕ) → (ℕ → Parser Expr) → (at end 
 arguments s child at end params = do
   xs ← run s end child
   all ← ended at end xs
-  λ next. elim (leb (length all) params) [ true ↦ ok (exprs all) next | false ↦ refused 5 at 0 ]
+  λ next. elim (leb (length all) params) [ true ↦ ok (exprsOf all) next | false ↦ refused 5 at 0 ]
 
 unfoldable pub asFreeCall : (s : List ℕ) → (ℕ → Parser Expr) → (at end : ℕ) → Parser Expr
 asFreeCall s child at end = do
@@ -222,7 +221,7 @@ asStaticCall s child at end = do
 
 unfoldable pub asInstanceCall : (s : List ℕ) → (ℕ → Parser Expr) → (at end : ℕ) → Parser Expr
 asInstanceCall s child at end = do
-  w ← mark s at end
+  w ← markByte s at end
   e ← child end
   c ← callee s at end
   xs ← arguments s child at end (length (c .params))
@@ -234,11 +233,11 @@ asClosureCall s child at end = do
   n ← u32 s at end
   l ← u16 s at end
   xs ← run s end child
-  give (closureCall at e n l (exprs xs))
+  give (closureCall at e n l (exprsOf xs))
 
 unfoldable pub exprKinds : (s : List ℕ) → (ℕ → Parser Expr) → (at end : ℕ) → List (Parser Expr)
 exprKinds s child at end =
-    refuse 2 at 0
+    unknownKind at
     ∷ asNop at
     ∷ asConst s at end
     ∷ asNull s at end
@@ -272,35 +271,35 @@ asExpr value at end = do
   e ← value end
   give (expr at e)
 
-unfoldable pub asNest : (s : List ℕ) → (ℕ → Parser Stmt) → (at end : ℕ) → Parser Stmt
-asNest s child at end = do
+unfoldable pub asBlock : (s : List ℕ) → (ℕ → Parser Stmt) → (at end : ℕ) → Parser Stmt
+asBlock s child at end = do
   b ← run s end child
-  give (nest at (block b))
+  give (block at (blockOf b))
 
 unfoldable pub asWhile : (s : List ℕ) → (ℕ → Parser Expr) → (ℕ → Parser Stmt) → (at end : ℕ) → Parser Stmt
 asWhile s value child at end = do
   c ← value end
   b ← run s end child
-  give (while at c (block b))
+  give (while at c (blockOf b))
 
 -- an item of Branches or Switch: a condition or matcher, and a block
 unfoldable pub arm : (s : List ℕ) → (ℕ → Parser Expr) → (ℕ → Parser Stmt) → (end : ℕ) → Parser (Expr × Block)
 arm s value child end = do
   c ← value end
   b ← run s end child
-  give (c, block b)
+  give (c, blockOf b)
 
 -- "default block if 1"
 unfoldable pub blockIf : (mark : ℕ) → Parser (List Stmt) → Parser Default
 blockIf zero p = give absent
 blockIf (suc m) p = do
   b ← p
-  give (present (block b))
+  give (present (blockOf b))
 
 unfoldable pub asBranches : (s : List ℕ) → (ℕ → Parser Expr) → (ℕ → Parser Stmt) → (at end : ℕ) → Parser Stmt
 asBranches s value child at end = do
   bs ← run s end (arm s value child)
-  m ← mark s at end
+  m ← markByte s at end
   d ← blockIf m (run s end child)
   give (branches at (branchesOf bs) d)
 
@@ -309,7 +308,7 @@ asSwitch s value child at end = do
   t ← u32 s at end
   e ← value end
   i ← u32 s at end
-  m ← mark s at end
+  m ← markByte s at end
   cs ← run s end (arm s value child)
   d ← blockIf m (run s end child)
   give (switch at t e i (casesOf cs) d)
@@ -319,12 +318,12 @@ asInitArray s value at end = do
   l ← u32 s at end
   t ← u32 s at end
   xs ← run s end value
-  give (initArray at l t (exprs xs))
+  give (initArray at l t (exprsOf xs))
 
 unfoldable pub asInitDefault : (s : List ℕ) (at end : ℕ) → Parser Stmt
 asInitDefault s at end = do
   l ← u32 s at end
-  b ← small s at end 23
+  b ← byteBelow s at end 23
   i ← u32 s at end
   give (initDefault at l b i)
 
@@ -343,14 +342,14 @@ returnIf (suc m) at p = do
 
 unfoldable pub asReturn : (s : List ℕ) → (ℕ → Parser Expr) → (at end : ℕ) → Parser Stmt
 asReturn s value at end = do
-  m ← mark s at end
+  m ← markByte s at end
   returnIf m at (value end)
 
 unfoldable pub stmtKinds : (s : List ℕ) → (ℕ → Parser Expr) → (ℕ → Parser Stmt) → (at end : ℕ) → List (Parser Stmt)
 stmtKinds s value child at end =
-    refuse 2 at 0
+    unknownKind at
     ∷ asExpr value at end
-    ∷ asNest s child at end
+    ∷ asBlock s child at end
     ∷ asWhile s value child at end
     ∷ asBranches s value child at end
     ∷ asSwitch s value child at end
@@ -370,15 +369,22 @@ parseStmt (suc d) s holder = node s holder (stmtBody s (parseExpr d s) (parseStm
 
 -- 6. The unit: "a version byte 1, a u32 length of what follows, a byte 0 or 1 (has_return_value), one block. At most 1,048,576 bytes"
 
+abbrev pub unitLimit : ℕ
+unitLimit = 1048576
+
+-- "At most 200 nodes may be nested"
+abbrev pub depthLimit : ℕ
+depthLimit = 200
+
 unfoldable pub frontGood : (s : List ℕ) → Bool
 frontGood s =
-    leb 6 (length s) && leb (length s) 1048576 && eqb (getD s 0 0) 1 && eqb (5 + number 4 s 1) (length s) && ltb (getD s 5 0) 2
+    leb 6 (length s) && leb (length s) unitLimit && eqb (getD s 0 0) 1 && eqb (5 + number 4 s 1) (length s) && ltb (getD s 5 0) 2
 
--- "At most 200 nodes may be nested"; bytes left after the block are 3 at its place, 6
+-- "a top statement is at depth 1"; bytes left after the block are 3 at its place, 6
 unfoldable pub parseUnit : (s : List ℕ) → Answer Script
 parseUnit s = elim (frontGood s) [
   | true ↦ (do
-    b ← run s (length s) (parseStmt 200 s)
-    ended 6 (length s) (record { returns = getD s 5 0; body = block b })) 6
+    b ← run s (length s) (parseStmt depthLimit s)
+    ended 6 (length s) (record { returns = getD s 5 0; body = blockOf b })) 6
   | false ↦ refused 1 0 0
 ]

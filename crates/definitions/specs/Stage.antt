@@ -8,19 +8,15 @@ use Rattle.definitions.specs.Answer.{Answer, ok, refused, Result, made, 
 use Rattle.definitions.specs.Tree.{Script}
 use Rattle.definitions.specs.Read.{parseUnit}
 use Rattle.definitions.specs.Instr.{Instr, size}
-use Rattle.definitions.specs.Code.{State, Outcome, going, stopped}
+use Rattle.definitions.specs.Code.{State}
 use Rattle.definitions.specs.Lower.{lower}
 use Rattle.definitions.specs.Listing.{listingLength}
 use Rattle.definitions.specs.Resolve.{resolveRecords, signed}
 
 -- 1. The labelled listing of a unit: "the whole unit is read before the walk"
 
-unfoldable pub walked : Outcome → Result State
-walked (going s) = made s
-walked (stopped n p x) = refusal n p x
-
 unfoldable pub lowered : Answer Script → Result State
-lowered (ok u next) = walked (lower u)
+lowered (ok u next) = lower u
 lowered (refused n p x) = refusal n p x
 
 abbrev pub labelled : (s : List ℕ) → Result State

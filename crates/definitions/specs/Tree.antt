@@ -22,8 +22,7 @@ mutual
     assign : (at : ℕ) → (place value : Expr) → Expr
     -- by form: 0 of a struct, 1 of an object, 2 of an object by weak reference
     field : (at form name : ℕ) → (receiver : Expr) → Expr
-    -- Index
-    element : (at dynamic type : ℕ) → (array i : Expr) → Expr
+    index : (at dynamic type : ℕ) → (array i : Expr) → Expr
     conditional : (at : ℕ) → (c t e : Expr) → Expr
     dynCast : (at class weak : ℕ) → Expr → Expr
     -- by form: 0 This, 1 Local, 2 Param, 3 ObjectField
@@ -43,7 +42,7 @@ mutual
 mutual
   pub data Stmt : Type 0 where
     expr : (at : ℕ) → Expr → Stmt
-    nest : (at : ℕ) → Block → Stmt
+    block : (at : ℕ) → Block → Stmt
     while : (at : ℕ) → (condition : Expr) → Block → Stmt
     branches : (at : ℕ) → Branches → Default → Stmt
     switch : (at type : ℕ) → (scrutinee : Expr) → (defaultIndex : ℕ) → Cases → Default → Stmt
@@ -77,13 +76,13 @@ pub record Script : Type 0 where
 
 -- from the lists that are read
 
-unfoldable pub exprs : List Expr → Exprs
-exprs [] = enil
-exprs (x ∷ xs) = econs x (exprs xs)
+unfoldable pub exprsOf : List Expr → Exprs
+exprsOf [] = enil
+exprsOf (x ∷ xs) = econs x (exprsOf xs)
 
-unfoldable pub block : List Stmt → Block
-block [] = bnil
-block (x ∷ xs) = bcons x (block xs)
+unfoldable pub blockOf : List Stmt → Block
+blockOf [] = bnil
+blockOf (x ∷ xs) = bcons x (blockOf xs)
 
 unfoldable pub branchesOf : List (Expr × Block) → Branches
 branchesOf [] = brnil
@@ -95,13 +94,13 @@ casesOf (x ∷ xs) = ccons (x .0) (x .1) (casesOf xs)
 
 -- how many
 
-unfoldable pub lengthE : Exprs → ℕ
-lengthE enil = 0
-lengthE (econs e es) = suc (lengthE es)
+unfoldable pub lengthExprs : Exprs → ℕ
+lengthExprs enil = 0
+lengthExprs (econs e es) = suc (lengthExprs es)
 
-unfoldable pub lengthC : Cases → ℕ
-lengthC cnil = 0
-lengthC (ccons m b cs) = suc (lengthC cs)
+unfoldable pub lengthCases : Cases → ℕ
+lengthCases cnil = 0
+lengthCases (ccons m b cs) = suc (lengthCases cs)
 
 unfoldable pub isPresent : Default → Bool
 isPresent absent = false
@@ -116,7 +115,7 @@ placeOf (newInstance at c) = at
 placeOf (construct at c es) = at
 placeOf (assign at p e) = at
 placeOf (field at f n e) = at
-placeOf (element at d t a i) = at
+placeOf (index at d t a i) = at
 placeOf (conditional at c t e) = at
 placeOf (dynCast at c w e) = at
 placeOf (local at f i) = at

@@ -1,8 +1,8 @@
 -- Listings: the front, all records, and the view of one.
 use Prim.Native.Nat.{ℕ, zero, suc, _+_, _-_, _*_, _/_, _%_, _≤_, _<_}
-use mathlib.Core.Path.{_≡_, refl, ap, sym}
-use mathlib.Core.Bool.{Bool, true, false, cond, _&&_}
-use mathlib.Core.List.{List, [], _∷_}
+use mathlib.Core.Path.{_≡_, refl, ap, sym, _∙_}
+use mathlib.Core.Bool.{Bool, true, false, cond, _&&_, and-false, and-eq-true-iff}
+use mathlib.Core.List.{List, [], _∷_, _++_}
 use native.Mathlib.Omega.{arith}
 use native.Mathlib.Nat.{div-add-mod'}
 use lib.Dec.{leb, ltb, eqb}
@@ -11,29 +11,42 @@ use borrow.Author.Tests.{le-leb, lt-leb, lt-ltb, le-ltb, eq-eqb, ne-eqb, leb-tru
 use Rattle.definitions.specs.Answer.{Result, made, refusal, onward, checked}
 use Rattle.definitions.specs.Bytes.{number, bytes}
 use Rattle.definitions.specs.Instr.{Instr, recordLength, recordAt, goodRecord}
-use Rattle.definitions.specs.Listing.{frontLength, listingLength, listingFront, countOf, recordsFrom, recordsOf, allGood, readListing, view, partOf}
+use Rattle.definitions.specs.Listing.{frontLength, listingLength, listingFront, countOf, recordsFrom, recordsOf, allGood, readListing, view, partOf, recordLimit}
 use Rattle.instr.specs.declared.listings.Checked.the-variants.{Good, Bad}
 use Rattle.instr.specs.declared.listings.Viewed.{Viewed}
 use Rattle.instr.specs.declared.listings.Viewed.the-variants as viewed
 use denote.Enum.Declared.{tagOf}
 use mathlib.Core.Logic.{_⊎_, inl, inr}
 use Rattle.instr.proofs.listings.Viewed.{the-type}
-use Rattle.instr.specs.Values.{stored, frontWritten, checkedIs, counted, frontIs, viewedIs}
-
-pub and-true : (a b : Bool) → (a && b) ≡ true → (a ≡ true) × (b ≡ true)
-and-true true b e = (refl, e)
-and-true false b e = let z : _≡_ {A = Bool} true false = sym e in (sym z, cc)
+use Rattle.instr.specs.Values.{stored, frontFits, frontWritten, checkedIs, counted, frontIs, viewedIs}
 
 -- 1. The front
 
-pub front-put : (s : List ℕ) (n v : ℕ) {t : List ℕ} → frontLength ≤ length s → v ≡ recordLength * n → t ≡ stored 1 4 v (set s 0 1) → t ≡ frontWritten n s
-unfolding bytes frontWritten
-front-put [] n v h e d = absurd (omega arith)
-front-put (x ∷ xs) n v h e d = rw (le-leb frontLength (length (x ∷ xs)) h, ← e) d
+-- it is written where the count and the part allow it
+pub front-room : (n : ℕ) (s : List ℕ) → n ≤ recordLimit → frontLength ≤ length s → true ≡ frontFits n s
+unfolding frontFits
+front-room n s m h = rw (le-leb n recordLimit m, le-leb frontLength (length s) h)
 
-pub front-none : (s : List ℕ) (n : ℕ) → length s < frontLength → s ≡ frontWritten n s
+pub front-over : (n : ℕ) (s : List ℕ) → recordLimit < n → false ≡ frontFits n s
+unfolding frontFits
+front-over n s m = rw (lt-leb n recordLimit m)
+
+pub front-tight : (n : ℕ) (s : List ℕ) → length s < frontLength → false ≡ frontFits n s
+unfolding frontFits
+front-tight n s h = rw (lt-leb frontLength (length s) h) (sym (and-false (leb n recordLimit)))
+
+pub front-none : (n : ℕ) (s : List ℕ) → false ≡ frontFits n s → s ≡ frontWritten n s
 unfolding frontWritten
-front-none s n h = rw (lt-leb frontLength (length s) h)
+front-none n s e = rw (← e)
+
+put-front : (s : List ℕ) (v : ℕ) → frontLength ≤ length s → stored 1 4 v (set s 0 1) ≡ 1 ∷ bytes 4 v ++ drop frontLength s
+unfolding bytes
+put-front [] v h = absurd (omega arith)
+put-front (x ∷ xs) v h = refl
+
+pub front-put : (n : ℕ) (s : List ℕ) {t : List ℕ} → true ≡ frontFits n s → frontLength ≤ length s → t ≡ stored 1 4 (recordLength * n) (set s 0 1) → t ≡ frontWritten n s
+unfolding frontWritten
+front-put n s e h d = rw (← e) (d ∙ put-front s (recordLength * n) h)
 
 module _ (s : List ℕ) where
   pub front-short : length s < frontLength → Bad ≡ frontIs s
@@ -57,13 +70,13 @@ module _ (s : List ℕ) where
       unfolding frontIs listingFront
       front-part m = rw (le-leb frontLength (length s) h, eq-eqb (getD s 0 0) 1 v, eq-eqb (frontLength + number 4 s 1) (length s) same, ne-eqb ((length s - frontLength) % recordLength) 0 m)
 
-      pub front-many : (length s - frontLength) % recordLength ≡ 0 → 1048576 < (length s - frontLength) / recordLength → Bad ≡ frontIs s
+      pub front-many : (length s - frontLength) % recordLength ≡ 0 → recordLimit < (length s - frontLength) / recordLength → Bad ≡ frontIs s
       unfolding frontIs listingFront countOf
-      front-many m k = rw (le-leb frontLength (length s) h, eq-eqb (getD s 0 0) 1 v, eq-eqb (frontLength + number 4 s 1) (length s) same, eq-eqb ((length s - frontLength) % recordLength) 0 m, lt-leb ((length s - frontLength) / recordLength) 1048576 k)
+      front-many m k = rw (le-leb frontLength (length s) h, eq-eqb (getD s 0 0) 1 v, eq-eqb (frontLength + number 4 s 1) (length s) same, eq-eqb ((length s - frontLength) % recordLength) 0 m, lt-leb ((length s - frontLength) / recordLength) recordLimit k)
 
-      pub front-good : (length s - frontLength) % recordLength ≡ 0 → (length s - frontLength) / recordLength ≤ 1048576 → Good ((length s - frontLength) / recordLength) ≡ frontIs s
+      pub front-good : (length s - frontLength) % recordLength ≡ 0 → (length s - frontLength) / recordLength ≤ recordLimit → Good ((length s - frontLength) / recordLength) ≡ frontIs s
       unfolding frontIs listingFront countOf
-      front-good m k = rw (le-leb frontLength (length s) h, eq-eqb (getD s 0 0) 1 v, eq-eqb (frontLength + number 4 s 1) (length s) same, eq-eqb ((length s - frontLength) % recordLength) 0 m, le-leb ((length s - frontLength) / recordLength) 1048576 k)
+      front-good m k = rw (le-leb frontLength (length s) h, eq-eqb (getD s 0 0) 1 v, eq-eqb (frontLength + number 4 s 1) (length s) same, eq-eqb ((length s - frontLength) % recordLength) 0 m, le-leb ((length s - frontLength) / recordLength) recordLimit k)
 
 -- what a good front says
 pub whole : (s : List ℕ) → listingFront s ≡ true → listingLength (countOf s) ≡ length s
@@ -73,9 +86,9 @@ whole s e =
     let b = eqb (getD s 0 0) 1 in
     let c = eqb (frontLength + number 4 s 1) (length s) in
     let d = eqb ((length s - frontLength) % recordLength) 0 in
-    let r = and-true (a && b && c && d) (leb (countOf s) 1048576) e .0 in
-    let q = and-true (a && b && c) d r in
-    let h : frontLength ≤ length s = leb-true frontLength (length s) (and-true a b (and-true (a && b) c (q .0) .0) .0) in
+    let r = and-eq-true-iff (a && b && c && d) (leb (countOf s) recordLimit) .0 e .0 in
+    let q = and-eq-true-iff (a && b && c) d .0 r in
+    let h : frontLength ≤ length s = leb-true frontLength (length s) (and-eq-true-iff a b .0 (and-eq-true-iff (a && b) c .0 (q .0) .0) .0) in
     let m : (length s - frontLength) % recordLength ≡ 0 = eqb-true ((length s - frontLength) % recordLength) 0 (q .1) in
     omega (arith, h, m, div-add-mod' (length s - frontLength) recordLength)
 
@@ -187,7 +200,7 @@ unfolding view readListing
 view-inside s part n e =
     let q = inside (listingFront s && allGood (recordsOf s)) (recordsOf s) n part (take recordLength (drop (listingLength n) s)) e in
     let h : n < countOf s = rw (length-records (countOf s) s frontLength) at (q .1) in
-    omega (arith, h, whole s (and-true (listingFront s) (allGood (recordsOf s)) (q .0) .0))
+    omega (arith, h, whole s (and-eq-true-iff (listingFront s) (allGood (recordsOf s)) .0 (q .0) .0))
 
 -- 5. What the viewer gives
 

@@ -1,13 +1,15 @@
 -- Numbers in bytes, one law for every width: what is written is read again, and what is read is written again.
 use Prim.Native.Nat.{ℕ, zero, suc, _+_, _*_, _-_, _/_, _%_, _^_, _≤_, _<_}
 use mathlib.Core.Path.{_≡_, refl, ap, sym, _∙_}
+use mathlib.Core.Bool.{Bool, true, false}
 use mathlib.Core.List.{List, [], _∷_, _++_, append-assoc}
 use native.Mathlib.Omega.{arith}
-use native.Mathlib.Nat.{add-zero, div-lt-iff-lt-mul, pow-zero, div-one, div-div-eq-div-mul, pow-suc, pow-succ', pow-le-pow-right, div-add-mod', mod-eq-of-lt, div-eq-of-lt, mul-add-div-right, mul-add-mod-self-right}
+use native.Mathlib.Nat.{add-zero, zero-add, add-assoc, div-lt-iff-lt-mul, pow-zero, div-one, div-div-eq-div-mul, pow-suc, pow-succ', pow-le-pow-right, div-add-mod', mod-eq-of-lt, div-eq-of-lt, mul-add-div-right, mul-add-mod-self-right}
 use native.Mathlib.Numerals.{add-one}
-use lib.Dec.{lit<}
+use lib.Dec.{lit<, leb}
 use lib.ListN.{take-append-drop, length, getD, take, drop, set, length-drop}
 use lib.Seq.{take-suc, getD-drop, getD-at, getD-append-add, set-at, length-take-le, append-snoc}
+use borrow.Author.Tests.{le-leb, lt-leb, leb-true, leb-false}
 use Rattle.definitions.specs.Bytes.{number, bytes}
 use Rattle.instr.specs.Values.{stored}
 
@@ -97,3 +99,37 @@ number-step s at k i v e f g = let m : at + (k + i) ≡ at + k + i = omega arith
 
 pub number-end : (s : List ℕ) (at i w v : ℕ) → i ≡ w → v ≡ number i s at → v < 256 ^ i → (v ≡ number w s at) × (v < 256 ^ w)
 number-end s at i w v h e l = (rw h at e, rw h at l)
+
+-- no place after `at`
+pub from-there : (w : ℕ) (s : List ℕ) (at : ℕ) {v : ℕ} → v ≡ number w s (at + 0) → v ≡ number w s at
+from-there w s at e = rw (add-zero at) at e
+
+-- reading a number whose bytes are all there
+pub one-byte : (s : List ℕ) (at : ℕ) {v : ℕ} → v ≡ getD s at 0 → v ≡ number 1 s at
+unfolding number
+one-byte s at e = simp (add-zero, zero-add) e
+
+pub two-bytes : (s : List ℕ) (at : ℕ) {a b : ℕ} → a ≡ getD s at 0 → b ≡ getD s (at + 1) 0 → a * 256 + b ≡ number 2 s at
+unfolding number
+two-bytes s at e f = simp (e, f, add-zero, zero-add)
+
+pub four-bytes : (s : List ℕ) (at : ℕ) {a b c d : ℕ} → a ≡ getD s at 0 → b ≡ getD s (at + 1) 0 → c ≡ getD s (at + 2) 0 → d ≡ getD s (at + 3) 0 →
+    ((a * 256 + b) * 256 + c) * 256 + d ≡ number 4 s at
+unfolding number
+four-bytes s at e f g h = simp (e, f, g, h, add-zero, zero-add)
+
+-- and in halves
+pub two-halves : (s : List ℕ) (at : ℕ) {a b : ℕ} → a ≡ number 4 s at → b ≡ number 4 s (at + 4) → a * 4294967296 + b ≡ number 8 s at
+unfolding number
+two-halves s at e f = simp (e, f, add-assoc, add-zero, zero-add) (omega arith)
+
+-- the bytes are all there
+room-at : (at w n : ℕ) (b : Bool) → leb w (n - at) ≡ b → at ≤ n → b ≡ leb (at + w) n
+room-at at w n true e h = let l = leb-true w (n - at) e in sym (le-leb (at + w) n (omega arith))
+room-at at w n false e h = let l = leb-false w (n - at) e in sym (lt-leb (at + w) n (omega arith))
+
+pub room : (at w n : ℕ) → at ≤ n → leb w (n - at) ≡ leb (at + w) n
+room at w n h = room-at at w n (leb w (n - at)) refl h
+
+pub no-room : (at w n : ℕ) → n < at → false ≡ leb (at + w) n
+no-room at w n h = sym (lt-leb (at + w) n (omega arith))

@@ -1,7 +1,7 @@
 -- Whole listings: what a caller learns from a check that passed, and that a listing as it is written is read again.
 use Prim.Native.Nat.{ℕ, suc, _+_, _-_, _*_, _/_, _%_, _≤_}
 use mathlib.Core.Path.{_≡_, refl, ap, sym, _∙_}
-use mathlib.Core.Bool.{Bool, true, false, _&&_}
+use mathlib.Core.Bool.{Bool, true, false, _&&_, and-eq-true-iff}
 use mathlib.Core.List.{List, [], _∷_, _++_, append-assoc}
 use native.Mathlib.Omega.{arith}
 use native.Mathlib.Nat.{div-eq-of-eq-mul-right}
@@ -10,12 +10,13 @@ use lib.ListN.{length, length-append}
 use Rattle.definitions.specs.Answer.{made, checked}
 use Rattle.definitions.specs.Bytes.{number, bytes}
 use Rattle.definitions.specs.Instr.{Instr, recordLength, recordBytes}
-use Rattle.definitions.specs.Listing.{frontLength, listingLength, listingFront, countOf, recordsFrom, recordsOf, allGood, readListing, recordsBytes, listingBytes}
+use Rattle.definitions.specs.Listing.{frontLength, listingLength, listingFront, countOf, recordsFrom, recordsOf, allGood, readListing, recordsBytes, listingBytes, recordLimit}
 use Rattle.instr.specs.declared.listings.Checked.the-variants.{Good}
-use Rattle.instr.specs.Values.{checkedIs, counted, AllWithin}
+use Rattle.laws.proofs.Widths.{AllWithin}
+use Rattle.instr.specs.Values.{checkedIs, counted}
 use Rattle.instr.proofs.NumberLaws.{length-bytes, read-back}
 use Rattle.instr.proofs.RecordLaws.{write-then-read}
-use Rattle.instr.proofs.ListingLaws.{and-true, whole, length-records, front-good, front-is-good}
+use Rattle.instr.proofs.ListingLaws.{whole, length-records, front-good, front-is-good}
 
 -- 1. A check that passed
 
@@ -34,7 +35,7 @@ pub accepted : (s : List ℕ) (n : ℕ) → checkedIs (Good n) ≡ counted (read
 unfolding checkedIs readListing checked
 accepted s n e =
     let q = passed (listingFront s && allGood (recordsOf s)) (recordsOf s) n e in
-    let b = and-true (listingFront s) (allGood (recordsOf s)) (q .0) in
+    let b = and-eq-true-iff (listingFront s) (allGood (recordsOf s)) .0 (q .0) in
     let m : n ≡ countOf s = q .1 ∙ length-records (countOf s) s frontLength in
     record { reads = rw (b .0, b .1); count = m; fills = rw m (whole s (b .0)); good = b .1 }
 
@@ -63,7 +64,7 @@ unfolding countOf
 count-is s n e = e
 
 -- a listing as it is written passes the check, and its records are those that were written
-pub written-is-read : (is : List Instr) → AllWithin is → allGood is ≡ true → length is ≤ 1048576 → readListing (listingBytes is) ≡ made is
+pub written-is-read : (is : List Instr) → AllWithin is → allGood is ≡ true → length is ≤ recordLimit → readListing (listingBytes is) ≡ made is
 unfolding readListing checked listingBytes
 written-is-read is h g m =
     let w = recordLength * length is in

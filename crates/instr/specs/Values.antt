@@ -1,16 +1,19 @@
 -- The code's rows, records and answers, in the words of the definitions.
-use Prim.Native.Nat.{ℕ, _+_, _*_, _<_, _^_}
-use mathlib.Core.Bool.{cond}
-use mathlib.Core.List.{List, [], _∷_, _++_, map}
-use lib.Dec.{leb}
+use Prim.Native.Nat.{ℕ, zero, suc, _+_, _*_, _<_, _^_}
+use mathlib.Core.Bool.{Bool, cond, _&&_}
+use mathlib.Core.List.{List, [], _∷_, _++_}
+use lib.Dec.{leb, ltb}
 use lib.ListN.{length, take, drop}
 use Rattle.definitions.specs.Answer.{Result, made, refusal}
 use Rattle.definitions.specs.Bytes.{bytes}
 use Rattle.definitions.specs.Tag as definitions
-use Rattle.definitions.specs.Instr.{Instr, recordLength, recordBytes}
-use Rattle.definitions.specs.Listing.{frontLength, listingLength, listingFront, countOf}
+use Rattle.definitions.specs.Instr.{Instr, recordLength, recordBytes, unused0}
+use Rattle.definitions.specs.Listing.{frontLength, listingLength, listingFront, countOf, recordLimit}
 use Rattle.instr.specs.declared.tables.Row.{Row}
+use Rattle.instr.specs.declared.tables.DefaultTag.{DefaultTag}
+use Rattle.instr.specs.declared.tables.DefaultTag.the-variants.{Is, NoValue}
 use Rattle.instr.specs.declared.records.Record.{Record}
+use Rattle.instr.specs.declared.records.Field.{Field}
 use Rattle.instr.specs.declared.listings.Checked.{Checked}
 use Rattle.instr.specs.declared.listings.Checked.the-variants.{Good, Bad}
 use Rattle.instr.specs.declared.listings.Viewed.{Viewed}
@@ -20,27 +23,27 @@ use Rattle.instr.specs.declared.listings.Viewed.the-variants as viewed
 abbrev pub rowIs : Row → definitions.Row
 rowIs r = record { small = r .small; first = r .first; second = r .second; line = r .line; flags = r .flags; value = r .value }
 
--- a table of the code's rows
-abbrev pub rowsAre : List Row → List definitions.Row
-rowsAre rs = map rowIs rs
+-- the tag of primitive k: the k-th of the definition's table, or none past its end
+unfoldable pub kth : List ℕ → (k : ℕ) → DefaultTag
+kth [] k = NoValue
+kth (t ∷ ts) zero = Is t
+kth (t ∷ ts) (suc k) = kth ts k
+
+abbrev pub defaultTagIs : (k : ℕ) → DefaultTag
+defaultTagIs k = kth definitions.defaultTags k
 
 -- a record of the code
 abbrev pub instrOf : Record → Instr
 instrOf r = record { tag = r .tag; small = r .small; first = r .first; second = r .second; line = r .line; flags = r .flags; value = r .value }
 
--- a record whose fields fit their places, as those of every `Record` do; and a list of such
-pub record Within (i : Instr) : Type 0 where
-  pub tag : i .tag < 256 ^ 1
-  pub small : i .small < 256 ^ 1
-  pub first : i .first < 256 ^ 2
-  pub second : i .second < 256 ^ 2
-  pub line : i .line < 256 ^ 2
-  pub flags : i .flags < 256 ^ 2
-  pub value : i .value < 256 ^ 8
+-- the fields of a record, each with its place, its width and its value
+abbrev pub slot : (at width value : ℕ) → Field
+slot at w v = record { 0 = at; 1 = w; 2 = v }
 
-abbrev pub AllWithin : List Instr → Type 0
-AllWithin [] = Unit {0}
-AllWithin (i ∷ is) = Within i × AllWithin is
+abbrev pub fieldsOf : Instr → List Field
+fieldsOf i =
+    slot 0 1 (i .tag) ∷ slot 1 1 (i .small) ∷ slot 2 2 (i .first) ∷ slot 4 2 (i .second) ∷ slot 6 2 (i .line) ∷ slot 8 2 (i .flags) ∷
+    slot 10 8 (i .value) ∷ []
 
 -- a list with the w bytes of a number stored from `at` on
 abbrev pub stored : (at w v : ℕ) → List ℕ → List ℕ
@@ -50,13 +53,23 @@ stored at w v s = take at s ++ (bytes w v ++ drop (at + w) s)
 unfoldable pub written : Instr → List ℕ → List ℕ
 written i s = cond (leb recordLength (length s)) (recordBytes i ++ drop recordLength s) s
 
+-- a record is good by the size and the row of its tag
+unfoldable pub goodWith : (size : ℕ) (row : definitions.Row) → Instr → Bool
+goodWith n row i =
+    ltb 0 n && unused0 (row .small) (i .small) && unused0 (row .first) (i .first) && unused0 (row .second) (i .second)
+    && unused0 (row .line) (i .line) && unused0 (row .flags) (i .flags) && unused0 (row .value) (i .value)
+
 -- the front of a listing of n records
 abbrev pub front : (n : ℕ) → List ℕ
 front n = 1 ∷ bytes 4 (recordLength * n)
 
--- a front written where a part begins, in the same way
+-- a listing may have so many records, and a part has room for its front
+unfoldable pub frontFits : (n : ℕ) → List ℕ → Bool
+frontFits n s = leb n recordLimit && leb frontLength (length s)
+
+-- a front written where a part begins; where it does not fit, the part stays
 unfoldable pub frontWritten : (n : ℕ) → List ℕ → List ℕ
-frontWritten n s = cond (leb frontLength (length s)) (front n ++ drop frontLength s) s
+frontWritten n s = cond (frontFits n s) (front n ++ drop frontLength s) s
 
 -- what a check of a listing answers: how many records there are, or document 01's number, place and extra
 unfoldable pub checkedIs : Checked → Result ℕ

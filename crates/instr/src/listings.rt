@@ -1,12 +1,13 @@
 // A listing: its front, the check of all its records, and the view of one.
+use crate::numbers;
 use crate::records;
 use crate::records::Record;
+use crate::tables;
 ghost use mathlib.Core.Path.{_≡_};
 ghost use Prim.Native.Nat.{_+_, _*_, _≤_};
-ghost use lib.Dec.{leb};
 ghost use lib.ListN.{length};
 ghost use Rattle.definitions.specs.Listing.{frontLength, listingLength, recordsFrom, allGood, readListing, view, partOf};
-ghost use Rattle.instr.specs.Values.{frontWritten, counted, checkedIs, viewedIs, frontIs};
+ghost use Rattle.instr.specs.Values.{frontFits, frontWritten, counted, checkedIs, viewedIs, frontIs};
 
 // A listing begins with its version and the length of what follows.
 pub const VERSION: u8 = 1;
@@ -21,7 +22,7 @@ pub const MOST_RECORDS: usize = 1048576;
 
 // A listing with so many records, or 30.
 pub enum Checked {
-    Good(usize),
+    Good { count: usize },
     Bad,
 }
 
@@ -29,19 +30,23 @@ pub enum Checked {
 pub enum Viewed {
     Seen,
     Bad,
-    Past(usize),
+    Past { number: usize },
 }
 
-// The front of a listing of so many records; what follows it stays. A part that is too short stays whole, and the answer is false.
+// The front of a listing of so many records; what follows it stays. A part that is too short, or a count that no listing may have,
+// leaves the part whole, and the answer is false.
 pub fn write_front(out: &mut [u8], count: u32) -> bool
-    ensures { λ fits. ⌜ (fits ≡ leb frontLength (length (now (out .entry)))) × (now (out .exit) ≡ frontWritten count (now (out .entry))) ⌝ }
+    ensures { λ fits. ⌜ (fits ≡ frontFits count (now (out .entry))) × (now (out .exit) ≡ frontWritten count (now (out .entry))) ⌝ }
 {
+    let n = count as usize;
+    if MOST_RECORDS < n {
+        return false;
+    }
     if out.len() < FRONT {
         return false;
     }
-    let bytes = Record::LENGTH * (count as usize);
     out[0] = VERSION;
-    records::put_number(out, LENGTH_AT, LENGTH_WIDTH, bytes as u64);
+    numbers::put_number(out, LENGTH_AT, LENGTH_WIDTH, (Record::LENGTH * n) as u64);
     true
 }
 
@@ -56,28 +61,34 @@ fn check_front(s: &[u8]) -> Checked
         return Checked::Bad;
     }
     let rest = s.len() - FRONT;
-    let length = records::number_at(s, LENGTH_AT, 0, LENGTH_WIDTH) as usize;
-    if length != rest {
+    if numbers::u32_at(s, LENGTH_AT) != rest {
         return Checked::Bad;
     }
     if rest % Record::LENGTH != 0 {
         return Checked::Bad;
     }
-    if MOST_RECORDS < rest / Record::LENGTH {
+    let count = rest / Record::LENGTH;
+    if MOST_RECORDS < count {
         return Checked::Bad;
     }
-    Checked::Good(rest / Record::LENGTH)
+    Checked::Good { count }
 }
 
-// Every record from the front on, each read once.
+// Every record from the front on, each read once. The tables are laid out once, before the first.
 fn check_records(s: &[u8], count: usize) -> bool
     requires { ⌜ listingLength count ≤ length (now s) ⌝ }
     ensures { λ r. ⌜ r ≡ allGood (recordsFrom count (now (s .entry)) frontLength) ⌝ }
 {
+    let sizes = tables::SIZES;
+    let rows = tables::ROWS;
+    let numbers = tables::ROW_NUMBERS;
     let mut left = count;
     let mut at = FRONT;
     while 0 < left {
-        if !records::good_record(records::read_record(s, at)) {
+        let r = records::read_inside(s, at);
+        let t = r.tag as usize;
+        let n = numbers[t] as usize;
+        if !records::good_with(r, sizes[t], rows[n]) {
             return false;
         }
         at += Record::LENGTH;
@@ -90,11 +101,11 @@ fn check_records(s: &[u8], count: usize) -> bool
 pub fn check_listing(s: &[u8]) -> Checked
     ensures { λ r. ⌜ checkedIs r ≡ counted (readListing (now (s .entry))) ⌝ }
 {
-    let Checked::Good(count) = check_front(s) else {
+    let Checked::Good { count } = check_front(s) else {
         return Checked::Bad;
     };
     if check_records(s, count) {
-        Checked::Good(count)
+        Checked::Good { count }
     } else {
         Checked::Bad
     }
@@ -104,13 +115,13 @@ pub fn check_listing(s: &[u8]) -> Checked
 pub fn view_check(s: &[u8], n: usize) -> Viewed
     ensures { λ r. ⌜ viewedIs r (now (s .entry)) n ≡ view (now (s .entry)) n ⌝ }
 {
-    let Checked::Good(count) = check_listing(s) else {
+    let Checked::Good { count } = check_listing(s) else {
         return Viewed::Bad;
     };
     if n < count {
         Viewed::Seen
     } else {
-        Viewed::Past(n)
+        Viewed::Past { number: n }
     }
 }
 

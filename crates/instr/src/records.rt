@@ -1,13 +1,13 @@
 // A record of a listing, and its bytes.
+use crate::numbers;
 use crate::tables;
+use crate::tables::Row;
 ghost use mathlib.Core.Path.{_≡_};
-ghost use mathlib.Core.Bool.{_&&_};
-ghost use Prim.Native.Nat.{_+_, _≤_, _<_, _^_};
+ghost use Prim.Native.Nat.{_+_, _≤_};
 ghost use lib.Dec.{leb};
-ghost use lib.ListN.{length, getD};
-ghost use Rattle.definitions.specs.Bytes.{number};
-ghost use Rattle.definitions.specs.Instr.{recordLength, recordAt, unused0, goodRecord};
-ghost use Rattle.instr.specs.Values.{instrOf, stored, written};
+ghost use lib.ListN.{length};
+ghost use Rattle.definitions.specs.Instr.{recordLength, recordAt, goodRecord};
+ghost use Rattle.instr.specs.Values.{rowIs, instrOf, fieldsOf, written, goodWith};
 
 pub struct Record {
     pub tag: u8,
@@ -38,50 +38,22 @@ impl Record {
     pub const VALUE: usize = 10;
 }
 
-fn wide(b: u8) -> u64
-    ensures { λ r. ⌜ (r ≡ b) × (r < 256) ⌝ }
-{
-    b as u64
-}
+// A field on its way into bytes: where it begins, how many bytes it has, and what it holds.
+struct Field(usize, usize, u64);
 
-// The byte k places after `at`; past the end stand zeros. Two numbers, so that their sum need not fit.
-fn byte_at(s: &[u8], at: usize, k: usize) -> u8
-    ensures { λ r. ⌜ r ≡ getD (now (s .entry)) (at + k) 0 ⌝ }
+// The fields of a record, one after the other.
+fn fields_of(r: Record) -> [Field; 7]
+    ensures { λ fields. ⌜ fields ≡ fieldsOf (instrOf r) ⌝ }
 {
-    if at < s.len() {
-        if k < s.len() - at {
-            return s[at + k];
-        }
-    }
-    0
-}
-
-// The number in w bytes, k places after `at`.
-pub(crate) fn number_at(s: &[u8], at: usize, k: usize, w: usize) -> u64
-    requires { ⌜ (k ≤ 10) × (w ≤ 8) ⌝ }
-    ensures { λ r. ⌜ (r ≡ number w (now (s .entry)) (at + k)) × (r < 256 ^ w) ⌝ }
-{
-    let mut v: u64 = 0;
-    let mut i = 0;
-    while i < w {
-        v = v * 256 + wide(byte_at(s, at, k + i));
-        i += 1;
-    }
-    v
-}
-
-// A number in w bytes of a part, from `at` on: the last byte first.
-pub(crate) fn put_number(part: &mut [u8], at: usize, w: usize, v: u64)
-    requires { ⌜ at + w ≤ length (now part) ⌝ }
-    ensures { λ _. ⌜ now (part .exit) ≡ stored at w v (now (part .entry)) ⌝ }
-{
-    let mut rest = v;
-    let mut k = w;
-    while 0 < k {
-        k -= 1;
-        part[at + k] = (rest % 256) as u8;
-        rest = rest / 256;
-    }
+    [
+        Field(Record::TAG, 1, r.tag as u64),
+        Field(Record::SMALL, 1, r.small as u64),
+        Field(Record::FIRST, 2, r.first as u64),
+        Field(Record::SECOND, 2, r.second as u64),
+        Field(Record::LINE, 2, r.line as u64),
+        Field(Record::FLAGS, 2, r.flags as u64),
+        Field(Record::VALUE, 8, r.value),
+    ]
 }
 
 // A record at the front of a part; what follows it stays. A part that is too short stays whole, and the answer is false.
@@ -91,53 +63,73 @@ pub fn write_record(part: &mut [u8], r: Record) -> bool
     if part.len() < Record::LENGTH {
         return false;
     }
-    put_number(part, Record::TAG, 1, r.tag as u64);
-    put_number(part, Record::SMALL, 1, r.small as u64);
-    put_number(part, Record::FIRST, 2, r.first as u64);
-    put_number(part, Record::SECOND, 2, r.second as u64);
-    put_number(part, Record::LINE, 2, r.line as u64);
-    put_number(part, Record::FLAGS, 2, r.flags as u64);
-    put_number(part, Record::VALUE, 8, r.value);
+    let fields = fields_of(r);
+    let mut k: usize = 0;
+    while k < fields.len() {
+        let f = fields[k];
+        numbers::put_number(part, f.0, f.1, f.2);
+        k += 1;
+    }
     true
+}
+
+// The record at a place of any slice, each byte tested singly: the plain form.
+fn read_plain(s: &[u8], at: usize) -> Record
+    ensures { λ r. ⌜ instrOf r ≡ recordAt (now (s .entry)) at ⌝ }
+{
+    Record {
+        tag: numbers::number_after(s, at, Record::TAG, 1) as u8,
+        small: numbers::number_after(s, at, Record::SMALL, 1) as u8,
+        first: numbers::number_after(s, at, Record::FIRST, 2) as u16,
+        second: numbers::number_after(s, at, Record::SECOND, 2) as u16,
+        line: numbers::number_after(s, at, Record::LINE, 2) as u16,
+        flags: numbers::number_after(s, at, Record::FLAGS, 2) as u16,
+        value: numbers::number_after(s, at, Record::VALUE, 8),
+    }
+}
+
+// The fast form, for a record that is in the slice.
+pub(crate) fn read_inside(s: &[u8], at: usize) -> Record
+    requires { ⌜ at + recordLength ≤ length (now s) ⌝ }
+    ensures { λ r. ⌜ instrOf r ≡ recordAt (now (s .entry)) at ⌝ }
+{
+    Record {
+        tag: s[at + Record::TAG],
+        small: s[at + Record::SMALL],
+        first: numbers::u16_inside(s, at + Record::FIRST),
+        second: numbers::u16_inside(s, at + Record::SECOND),
+        line: numbers::u16_inside(s, at + Record::LINE),
+        flags: numbers::u16_inside(s, at + Record::FLAGS),
+        value: numbers::u64_inside(s, at + Record::VALUE),
+    }
 }
 
 // The record at a place of any slice; past the end stand zeros.
 pub fn read_record(s: &[u8], at: usize) -> Record
     ensures { λ r. ⌜ instrOf r ≡ recordAt (now (s .entry)) at ⌝ }
 {
-    Record {
-        tag: number_at(s, at, Record::TAG, 1) as u8,
-        small: number_at(s, at, Record::SMALL, 1) as u8,
-        first: number_at(s, at, Record::FIRST, 2) as u16,
-        second: number_at(s, at, Record::SECOND, 2) as u16,
-        line: number_at(s, at, Record::LINE, 2) as u16,
-        flags: number_at(s, at, Record::FLAGS, 2) as u16,
-        value: number_at(s, at, Record::VALUE, 8),
+    if numbers::inside(s, at, Record::LENGTH) {
+        return read_inside(s, at);
     }
+    read_plain(s, at)
 }
 
-// All is well so far, and the field is used or 0.
-fn unused(so_far: bool, used: bool, field: u64) -> bool
-    ensures { λ r. ⌜ r ≡ («so_far» && unused0 used field) ⌝ }
+// A record that a listing may hold, by the size and the row of its tag. No test waits for another, so that the compiler makes no branch.
+pub(crate) fn good_with(r: Record, size: u8, row: Row) -> bool
+    ensures { λ good. ⌜ good ≡ goodWith size (rowIs row) (instrOf r) ⌝ }
 {
-    if so_far {
-        if used { true } else { field == 0 }
-    } else {
-        false
-    }
+    (0 < size)
+        & (row.small | (r.small == 0))
+        & (row.first | (r.first == 0))
+        & (row.second | (r.second == 0))
+        & (row.line | (r.line == 0))
+        & (row.flags | (r.flags == 0))
+        & (row.value | (r.value == 0))
 }
 
 // A record that a listing may hold: a tag that the base emits, and unused fields 0.
 pub fn good_record(r: Record) -> bool
     ensures { λ good. ⌜ good ≡ goodRecord (instrOf r) ⌝ }
 {
-    let row = tables::row_of(r.tag);
-    let size = tables::size_of(r.tag);
-    let emitted = 0 < size;
-    let small = unused(emitted, row.small, r.small as u64);
-    let first = unused(small, row.first, r.first as u64);
-    let second = unused(first, row.second, r.second as u64);
-    let line = unused(second, row.line, r.line as u64);
-    let flags = unused(line, row.flags, r.flags as u64);
-    unused(flags, row.value, r.value)
+    good_with(r, tables::size_of(r.tag), tables::row_of(r.tag))
 }

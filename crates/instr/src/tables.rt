@@ -1,10 +1,12 @@
-// What goes with each tag: its virtual size, the fields it uses, and the tags of default bytes.
+// What goes with each tag: its virtual size, the fields it uses, and the tags of default bytes. Each table stands as a constant, which
+// the functions `.._in_table` read. A constant that is indexed is laid out anew at each call, while a `match` is read where it stands: so
+// `size_of`, `row_of` and `default_tag`, which are proved to give the same, are the forms to use. A pass over many records may lay the
+// constants out once, before its loop.
 use crate::tag;
 ghost use mathlib.Core.Path.{_≡_};
 ghost use Prim.Native.Nat.{_≤_};
-ghost use lib.ListN.{getD};
-ghost use Rattle.definitions.specs.Tag.{Nop, tagSize, rowOf, defaultTags};
-ghost use Rattle.instr.specs.Values.{rowIs, rowsAre};
+ghost use Rattle.definitions.specs.Tag.{tagSize, rowOf};
+ghost use Rattle.instr.specs.Values.{rowIs, defaultTagIs};
 
 // The virtual size of each tag; 0 where the base emits no such tag.
 pub const SIZES: [u8; 256] = [
@@ -282,27 +284,6 @@ pub const SIZES: [u8; 256] = [
     0,
 ];
 
-// The tags of the default bytes 5 to 21.
-pub const DEFAULT_TAGS: [u8; 17] = [
-    tag::STRING_CONST,
-    tag::CNAME_CONST,
-    tag::RESOURCE_CONST,
-    tag::TWEAK_DB_ID_CONST,
-    tag::F32_CONST,
-    tag::F64_CONST,
-    tag::I8_CONST,
-    tag::I16_CONST,
-    tag::I32_ZERO,
-    tag::I64_CONST,
-    tag::U8_CONST,
-    tag::U16_CONST,
-    tag::U32_CONST,
-    tag::U64_CONST,
-    tag::FALSE_CONST,
-    tag::NULL,
-    tag::WEAK_REF_NULL,
-];
-
 // The fields of a record that a tag uses.
 pub struct Row {
     pub small: bool,
@@ -383,314 +364,515 @@ const I: Row = Row {
     value: true,
 };
 
-// Which fields each tag uses. The rows are returned: a constant of structs is built anew, one local an entry, wherever it is read,
-// and 256 of them are too many to prove.
-pub fn rows() -> [Row; 256]
-    ensures { λ r. ⌜ rowsAre r ≡ Rattle.definitions.specs.Tag.rows ⌝ }
-{
-    let o = O;
-    let v = V;
-    let j = J;
-    let s = S;
-    let p = P;
-    let c = C;
-    let i = I;
-    [
-        // 0x00
-        o, // NOP
-        o, // NULL
-        o, // I32_ONE
-        o, // I32_ZERO
-        v, // I8_CONST
-        v, // I16_CONST
-        v, // I32_CONST
-        v, // I64_CONST
-        v, // U8_CONST
-        v, // U16_CONST
-        v, // U32_CONST
-        v, // U64_CONST
-        v, // F32_CONST
-        v, // F64_CONST
-        v, // CNAME_CONST
-        v, // ENUM_CONST
-        // 0x10
-        v, // STRING_CONST
-        v, // TWEAK_DB_ID_CONST
-        v, // RESOURCE_CONST
-        o, // TRUE_CONST
-        o, // FALSE_CONST
-        o,
-        o, // ASSIGN
-        o,
-        v, // LOCAL
-        v, // PARAM
-        v, // OBJECT_FIELD
-        o,
-        s, // SWITCH
-        p, // SWITCH_LABEL
-        o, // SWITCH_DEFAULT
-        j, // JUMP
-        // 0x20
-        j, // JUMP_IF_FALSE
-        j, // SKIP
-        p, // CONDITIONAL
-        c, // CONSTRUCT
-        i, // INVOKE_STATIC
-        i, // INVOKE_VIRTUAL
-        o, // PARAM_END
-        o, // RETURN
-        v, // STRUCT_FIELD
-        j, // CONTEXT
-        v, // EQUALS
-        o,
-        o,
-        v, // NOT_EQUALS
-        o,
-        o,
-        // 0x30
-        v, // NEW
-        o,
-        o, // THIS
-        o,
-        v, // ARRAY_CLEAR
-        v, // ARRAY_SIZE
-        v, // ARRAY_RESIZE
-        v, // ARRAY_FIND_FIRST
-        o,
-        v, // ARRAY_FIND_LAST
-        o,
-        v, // ARRAY_CONTAINS
-        o,
-        v, // ARRAY_COUNT
-        o,
-        v, // ARRAY_PUSH
-        // 0x40
-        v, // ARRAY_POP
-        v, // ARRAY_INSERT
-        v, // ARRAY_REMOVE
-        o,
-        v, // ARRAY_GROW
-        v, // ARRAY_ERASE
-        o,
-        v, // ARRAY_LAST
-        v, // ARRAY_ELEMENT
-        v, // ARRAY_SORT
-        v, // ARRAY_SORT_BY_PREDICATE
-        o,
-        o,
-        o,
-        o,
-        o,
-        // 0x50
-        o,
-        o,
-        o,
-        o,
-        o,
-        v, // STATIC_ARRAY_ELEMENT
-        o, // REF_TO_BOOL
-        o,
-        c, // ENUM_TO_I32
-        c, // I32_TO_ENUM
-        c, // DYNAMIC_CAST
-        v, // TO_STRING
-        v, // TO_VARIANT
-        v, // FROM_VARIANT
-        o, // VARIANT_IS_DEFINED
-        o, // VARIANT_IS_REF
-        // 0x60
-        o, // VARIANT_IS_ARRAY
-        o, // VARIANT_TYPE_NAME
-        o,
-        o, // WEAK_REF_TO_REF
-        o, // REF_TO_WEAK_REF
-        o, // WEAK_REF_NULL
-        v, // AS_REF
-        v, // DEREF
-        o,
-        o,
-        o,
-        o,
-        o,
-        o,
-        o,
-        o,
-        // 0x70
-        o,
-        o,
-        o,
-        o,
-        o,
-        o,
-        o,
-        o,
-        o,
-        o,
-        o,
-        o,
-        o,
-        o,
-        o,
-        o,
-        // 0x80
-        o,
-        o,
-        o,
-        o,
-        o,
-        o,
-        o,
-        o,
-        o,
-        o,
-        o,
-        o,
-        o,
-        o,
-        o,
-        o,
-        // 0x90
-        o,
-        o,
-        o,
-        o,
-        o,
-        o,
-        o,
-        o,
-        o,
-        o,
-        o,
-        o,
-        o,
-        o,
-        o,
-        o,
-        // 0xA0
-        o,
-        o,
-        o,
-        o,
-        o,
-        o,
-        o,
-        o,
-        o,
-        o,
-        o,
-        o,
-        o,
-        o,
-        o,
-        o,
-        // 0xB0
-        o,
-        o,
-        o,
-        o,
-        o,
-        o,
-        o,
-        o,
-        o,
-        o,
-        o,
-        o,
-        o,
-        o,
-        o,
-        o,
-        // 0xC0
-        o,
-        o,
-        o,
-        o,
-        o,
-        o,
-        o,
-        o,
-        o,
-        o,
-        o,
-        o,
-        o,
-        o,
-        o,
-        o,
-        // 0xD0
-        o,
-        o,
-        o,
-        o,
-        o,
-        o,
-        o,
-        o,
-        o,
-        o,
-        o,
-        o,
-        o,
-        o,
-        o,
-        o,
-        // 0xE0
-        o,
-        o,
-        o,
-        o,
-        o,
-        o,
-        o,
-        o,
-        o,
-        o,
-        o,
-        o,
-        o,
-        o,
-        o,
-        o,
-        // 0xF0
-        o,
-        o,
-        o,
-        o,
-        o,
-        o,
-        o,
-        o,
-        o,
-        o,
-        o,
-        o,
-        o,
-        o,
-        o,
-        o,
-    ]
+// The rows that there are.
+pub const ROWS: [Row; 7] = [O, V, J, S, P, C, I];
+
+// Which of them each tag has.
+pub const ROW_NUMBERS: [u8; 256] = [
+    // 0x00
+    0, // NOP
+    0, // NULL
+    0, // I32_ONE
+    0, // I32_ZERO
+    1, // I8_CONST
+    1, // I16_CONST
+    1, // I32_CONST
+    1, // I64_CONST
+    1, // U8_CONST
+    1, // U16_CONST
+    1, // U32_CONST
+    1, // U64_CONST
+    1, // F32_CONST
+    1, // F64_CONST
+    1, // CNAME_CONST
+    1, // ENUM_CONST
+    // 0x10
+    1, // STRING_CONST
+    1, // TWEAK_DB_ID_CONST
+    1, // RESOURCE_CONST
+    0, // TRUE_CONST
+    0, // FALSE_CONST
+    0,
+    0, // ASSIGN
+    0,
+    1, // LOCAL
+    1, // PARAM
+    1, // OBJECT_FIELD
+    0,
+    3, // SWITCH
+    4, // SWITCH_LABEL
+    0, // SWITCH_DEFAULT
+    2, // JUMP
+    // 0x20
+    2, // JUMP_IF_FALSE
+    2, // SKIP
+    4, // CONDITIONAL
+    5, // CONSTRUCT
+    6, // INVOKE_STATIC
+    6, // INVOKE_VIRTUAL
+    0, // PARAM_END
+    0, // RETURN
+    1, // STRUCT_FIELD
+    2, // CONTEXT
+    1, // EQUALS
+    0,
+    0,
+    1, // NOT_EQUALS
+    0,
+    0,
+    // 0x30
+    1, // NEW
+    0,
+    0, // THIS
+    0,
+    1, // ARRAY_CLEAR
+    1, // ARRAY_SIZE
+    1, // ARRAY_RESIZE
+    1, // ARRAY_FIND_FIRST
+    0,
+    1, // ARRAY_FIND_LAST
+    0,
+    1, // ARRAY_CONTAINS
+    0,
+    1, // ARRAY_COUNT
+    0,
+    1, // ARRAY_PUSH
+    // 0x40
+    1, // ARRAY_POP
+    1, // ARRAY_INSERT
+    1, // ARRAY_REMOVE
+    0,
+    1, // ARRAY_GROW
+    1, // ARRAY_ERASE
+    0,
+    1, // ARRAY_LAST
+    1, // ARRAY_ELEMENT
+    1, // ARRAY_SORT
+    1, // ARRAY_SORT_BY_PREDICATE
+    0,
+    0,
+    0,
+    0,
+    0,
+    // 0x50
+    0,
+    0,
+    0,
+    0,
+    0,
+    1, // STATIC_ARRAY_ELEMENT
+    0, // REF_TO_BOOL
+    0,
+    5, // ENUM_TO_I32
+    5, // I32_TO_ENUM
+    5, // DYNAMIC_CAST
+    1, // TO_STRING
+    1, // TO_VARIANT
+    1, // FROM_VARIANT
+    0, // VARIANT_IS_DEFINED
+    0, // VARIANT_IS_REF
+    // 0x60
+    0, // VARIANT_IS_ARRAY
+    0, // VARIANT_TYPE_NAME
+    0,
+    0, // WEAK_REF_TO_REF
+    0, // REF_TO_WEAK_REF
+    0, // WEAK_REF_NULL
+    1, // AS_REF
+    1, // DEREF
+    0,
+    0,
+    0,
+    0,
+    0,
+    0,
+    0,
+    0,
+    // 0x70
+    0,
+    0,
+    0,
+    0,
+    0,
+    0,
+    0,
+    0,
+    0,
+    0,
+    0,
+    0,
+    0,
+    0,
+    0,
+    0,
+    // 0x80
+    0,
+    0,
+    0,
+    0,
+    0,
+    0,
+    0,
+    0,
+    0,
+    0,
+    0,
+    0,
+    0,
+    0,
+    0,
+    0,
+    // 0x90
+    0,
+    0,
+    0,
+    0,
+    0,
+    0,
+    0,
+    0,
+    0,
+    0,
+    0,
+    0,
+    0,
+    0,
+    0,
+    0,
+    // 0xA0
+    0,
+    0,
+    0,
+    0,
+    0,
+    0,
+    0,
+    0,
+    0,
+    0,
+    0,
+    0,
+    0,
+    0,
+    0,
+    0,
+    // 0xB0
+    0,
+    0,
+    0,
+    0,
+    0,
+    0,
+    0,
+    0,
+    0,
+    0,
+    0,
+    0,
+    0,
+    0,
+    0,
+    0,
+    // 0xC0
+    0,
+    0,
+    0,
+    0,
+    0,
+    0,
+    0,
+    0,
+    0,
+    0,
+    0,
+    0,
+    0,
+    0,
+    0,
+    0,
+    // 0xD0
+    0,
+    0,
+    0,
+    0,
+    0,
+    0,
+    0,
+    0,
+    0,
+    0,
+    0,
+    0,
+    0,
+    0,
+    0,
+    0,
+    // 0xE0
+    0,
+    0,
+    0,
+    0,
+    0,
+    0,
+    0,
+    0,
+    0,
+    0,
+    0,
+    0,
+    0,
+    0,
+    0,
+    0,
+    // 0xF0
+    0,
+    0,
+    0,
+    0,
+    0,
+    0,
+    0,
+    0,
+    0,
+    0,
+    0,
+    0,
+    0,
+    0,
+    0,
+    0,
+];
+
+// The tags of the default bytes 5 to 21.
+pub const DEFAULT_TAGS: [u8; 17] = [
+    tag::STRING_CONST,
+    tag::CNAME_CONST,
+    tag::RESOURCE_CONST,
+    tag::TWEAK_DB_ID_CONST,
+    tag::F32_CONST,
+    tag::F64_CONST,
+    tag::I8_CONST,
+    tag::I16_CONST,
+    tag::I32_ZERO,
+    tag::I64_CONST,
+    tag::U8_CONST,
+    tag::U16_CONST,
+    tag::U32_CONST,
+    tag::U64_CONST,
+    tag::FALSE_CONST,
+    tag::NULL,
+    tag::WEAK_REF_NULL,
+];
+
+// The tag that gives a primitive its default value, or a primitive with no value.
+pub enum DefaultTag {
+    Is(u8),
+    NoValue,
 }
 
 // The virtual size of a record with this tag.
-pub fn size_of(tag: u8) -> u8
+pub fn size_in_table(tag: u8) -> u8
     ensures { λ r. ⌜ (r ≡ tagSize tag) × (r ≤ 17) ⌝ }
 {
     let t = tag as usize;
     SIZES[t]
 }
 
+// The same, by a match: the form to use.
+pub fn size_of(tag: u8) -> u8
+    ensures { λ r. ⌜ (r ≡ tagSize tag) × (r ≤ 17) ⌝ }
+{
+    match tag {
+        tag::NOP => 1,
+        tag::NULL => 1,
+        tag::I32_ONE => 1,
+        tag::I32_ZERO => 1,
+        tag::I8_CONST => 2,
+        tag::I16_CONST => 3,
+        tag::I32_CONST => 5,
+        tag::I64_CONST => 9,
+        tag::U8_CONST => 2,
+        tag::U16_CONST => 3,
+        tag::U32_CONST => 5,
+        tag::U64_CONST => 9,
+        tag::F32_CONST => 5,
+        tag::F64_CONST => 9,
+        tag::CNAME_CONST => 9,
+        tag::ENUM_CONST => 17,
+        tag::STRING_CONST => 5,
+        tag::TWEAK_DB_ID_CONST => 9,
+        tag::RESOURCE_CONST => 9,
+        tag::TRUE_CONST => 1,
+        tag::FALSE_CONST => 1,
+        tag::ASSIGN => 1,
+        tag::LOCAL => 9,
+        tag::PARAM => 9,
+        tag::OBJECT_FIELD => 9,
+        tag::SWITCH => 11,
+        tag::SWITCH_LABEL => 5,
+        tag::SWITCH_DEFAULT => 1,
+        tag::JUMP => 3,
+        tag::JUMP_IF_FALSE => 3,
+        tag::SKIP => 3,
+        tag::CONDITIONAL => 5,
+        tag::CONSTRUCT => 10,
+        tag::INVOKE_STATIC => 15,
+        tag::INVOKE_VIRTUAL => 15,
+        tag::PARAM_END => 1,
+        tag::RETURN => 1,
+        tag::STRUCT_FIELD => 9,
+        tag::CONTEXT => 3,
+        tag::EQUALS => 9,
+        tag::NOT_EQUALS => 9,
+        tag::NEW => 9,
+        tag::THIS => 1,
+        tag::ARRAY_CLEAR => 9,
+        tag::ARRAY_SIZE => 9,
+        tag::ARRAY_RESIZE => 9,
+        tag::ARRAY_FIND_FIRST => 9,
+        tag::ARRAY_FIND_LAST => 9,
+        tag::ARRAY_CONTAINS => 9,
+        tag::ARRAY_COUNT => 9,
+        tag::ARRAY_PUSH => 9,
+        tag::ARRAY_POP => 9,
+        tag::ARRAY_INSERT => 9,
+        tag::ARRAY_REMOVE => 9,
+        tag::ARRAY_GROW => 9,
+        tag::ARRAY_ERASE => 9,
+        tag::ARRAY_LAST => 9,
+        tag::ARRAY_ELEMENT => 9,
+        tag::ARRAY_SORT => 9,
+        tag::ARRAY_SORT_BY_PREDICATE => 9,
+        tag::STATIC_ARRAY_ELEMENT => 9,
+        tag::REF_TO_BOOL => 1,
+        tag::ENUM_TO_I32 => 10,
+        tag::I32_TO_ENUM => 10,
+        tag::DYNAMIC_CAST => 10,
+        tag::TO_STRING => 9,
+        tag::TO_VARIANT => 9,
+        tag::FROM_VARIANT => 9,
+        tag::VARIANT_IS_DEFINED => 1,
+        tag::VARIANT_IS_REF => 1,
+        tag::VARIANT_IS_ARRAY => 1,
+        tag::VARIANT_TYPE_NAME => 1,
+        tag::WEAK_REF_TO_REF => 1,
+        tag::REF_TO_WEAK_REF => 1,
+        tag::WEAK_REF_NULL => 1,
+        tag::AS_REF => 9,
+        tag::DEREF => 9,
+        _ => 0,
+    }
+}
+
 // The fields that a record with this tag uses.
-pub fn row_of(tag: u8) -> Row
+pub fn row_in_table(tag: u8) -> Row
     ensures { λ r. ⌜ rowIs r ≡ rowOf tag ⌝ }
 {
     let t = tag as usize;
-    let table = rows();
-    table[t]
+    let n = ROW_NUMBERS[t] as usize;
+    ROWS[n]
 }
 
-// The tag of primitive k, counted from default byte 5 on; Nop past the last.
-pub fn default_tag(k: usize) -> u8
-    ensures { λ r. ⌜ r ≡ getD defaultTags k Nop ⌝ }
+// The same, by a match: the form to use.
+pub fn row_of(tag: u8) -> Row
+    ensures { λ r. ⌜ rowIs r ≡ rowOf tag ⌝ }
 {
-    if k < 17 { DEFAULT_TAGS[k] } else { tag::NOP }
+    match tag {
+        tag::I8_CONST => V,
+        tag::I16_CONST => V,
+        tag::I32_CONST => V,
+        tag::I64_CONST => V,
+        tag::U8_CONST => V,
+        tag::U16_CONST => V,
+        tag::U32_CONST => V,
+        tag::U64_CONST => V,
+        tag::F32_CONST => V,
+        tag::F64_CONST => V,
+        tag::CNAME_CONST => V,
+        tag::ENUM_CONST => V,
+        tag::STRING_CONST => V,
+        tag::TWEAK_DB_ID_CONST => V,
+        tag::RESOURCE_CONST => V,
+        tag::LOCAL => V,
+        tag::PARAM => V,
+        tag::OBJECT_FIELD => V,
+        tag::SWITCH => S,
+        tag::SWITCH_LABEL => P,
+        tag::JUMP => J,
+        tag::JUMP_IF_FALSE => J,
+        tag::SKIP => J,
+        tag::CONDITIONAL => P,
+        tag::CONSTRUCT => C,
+        tag::INVOKE_STATIC => I,
+        tag::INVOKE_VIRTUAL => I,
+        tag::STRUCT_FIELD => V,
+        tag::CONTEXT => J,
+        tag::EQUALS => V,
+        tag::NOT_EQUALS => V,
+        tag::NEW => V,
+        tag::ARRAY_CLEAR => V,
+        tag::ARRAY_SIZE => V,
+        tag::ARRAY_RESIZE => V,
+        tag::ARRAY_FIND_FIRST => V,
+        tag::ARRAY_FIND_LAST => V,
+        tag::ARRAY_CONTAINS => V,
+        tag::ARRAY_COUNT => V,
+        tag::ARRAY_PUSH => V,
+        tag::ARRAY_POP => V,
+        tag::ARRAY_INSERT => V,
+        tag::ARRAY_REMOVE => V,
+        tag::ARRAY_GROW => V,
+        tag::ARRAY_ERASE => V,
+        tag::ARRAY_LAST => V,
+        tag::ARRAY_ELEMENT => V,
+        tag::ARRAY_SORT => V,
+        tag::ARRAY_SORT_BY_PREDICATE => V,
+        tag::STATIC_ARRAY_ELEMENT => V,
+        tag::ENUM_TO_I32 => C,
+        tag::I32_TO_ENUM => C,
+        tag::DYNAMIC_CAST => C,
+        tag::TO_STRING => V,
+        tag::TO_VARIANT => V,
+        tag::FROM_VARIANT => V,
+        tag::AS_REF => V,
+        tag::DEREF => V,
+        _ => O,
+    }
+}
+
+// The tag of primitive k, counted from default byte 5 on.
+pub fn default_tag_in_table(k: usize) -> DefaultTag
+    ensures { λ r. ⌜ r ≡ defaultTagIs k ⌝ }
+{
+    if k < 17 {
+        DefaultTag::Is(DEFAULT_TAGS[k])
+    } else {
+        DefaultTag::NoValue
+    }
+}
+
+// The same, by a match: the form to use.
+pub fn default_tag(k: usize) -> DefaultTag
+    ensures { λ r. ⌜ r ≡ defaultTagIs k ⌝ }
+{
+    match k {
+        0 => DefaultTag::Is(tag::STRING_CONST),
+        1 => DefaultTag::Is(tag::CNAME_CONST),
+        2 => DefaultTag::Is(tag::RESOURCE_CONST),
+        3 => DefaultTag::Is(tag::TWEAK_DB_ID_CONST),
+        4 => DefaultTag::Is(tag::F32_CONST),
+        5 => DefaultTag::Is(tag::F64_CONST),
+        6 => DefaultTag::Is(tag::I8_CONST),
+        7 => DefaultTag::Is(tag::I16_CONST),
+        8 => DefaultTag::Is(tag::I32_ZERO),
+        9 => DefaultTag::Is(tag::I64_CONST),
+        10 => DefaultTag::Is(tag::U8_CONST),
+        11 => DefaultTag::Is(tag::U16_CONST),
+        12 => DefaultTag::Is(tag::U32_CONST),
+        13 => DefaultTag::Is(tag::U64_CONST),
+        14 => DefaultTag::Is(tag::FALSE_CONST),
+        15 => DefaultTag::Is(tag::NULL),
+        16 => DefaultTag::Is(tag::WEAK_REF_NULL),
+        _ => DefaultTag::NoValue,
+    }
 }

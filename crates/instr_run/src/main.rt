@@ -1,7 +1,11 @@
-// Every tag's record is written, checked and seen; then each byte of each record is damaged in turn. The counts are the program's own.
+// The tables by their two forms, numbers at the end of a slice, a front at the limit; then every tag's record is written, checked and
+// seen, and each byte of each record is damaged in turn. The counts are the program's own.
+mod forms;
+
 use instr::listings;
 use instr::listings::Checked;
 use instr::listings::Viewed;
+use instr::numbers;
 use instr::records;
 use instr::records::Record;
 use instr::tables;
@@ -11,6 +15,41 @@ const OUT: i32 = 1;
 
 // The front and 77 records.
 const LENGTH: usize = 1391;
+
+// A text and a number on a line.
+fn line(text: &[u8], n: u64) {
+    io::write_all(OUT, text);
+    io::write_all(OUT, b" ");
+    io::print_decimal(OUT, n);
+    io::write_all(OUT, b"\n");
+}
+
+// A text and the three numbers of a refusal; the extra is 0.
+fn refusal(text: &[u8], number: u64, place: u64) {
+    io::write_all(OUT, text);
+    io::write_all(OUT, b" ");
+    io::print_decimal(OUT, number);
+    io::write_all(OUT, b" ");
+    io::print_decimal(OUT, place);
+    io::write_all(OUT, b" 0\n");
+}
+
+// 1 for true.
+fn one_if(same: bool) -> u64
+    ensures { λ r. ⌜ r ≤ 1 ⌝ }
+{
+    if same { 1 } else { 0 }
+}
+
+// A front of so many records in five bytes of 7: whether it is written, and what stands there then.
+fn run_front(text: &[u8], count: u32) {
+    let mut s = [7u8; 5];
+    let written = listings::write_front(&mut s, count);
+    io::write_all(OUT, text);
+    line(b" written", one_if(written));
+    line(b"  version", numbers::byte_at(&s, 0) as u64);
+    line(b"  length", numbers::u32_at(&s, 1) as u64);
+}
 
 fn byte_if(used: bool, field: u8) -> u8 {
     if used { field } else { 0 }
@@ -46,35 +85,6 @@ fn same_record(a: Record, b: Record) -> bool {
         && a.line == b.line
         && a.flags == b.flags
         && a.value == b.value
-}
-
-// A text and a number on a line.
-fn line(text: &[u8], n: u64) {
-    io::write_all(OUT, text);
-    io::write_all(OUT, b" ");
-    io::print_decimal(OUT, n);
-    io::write_all(OUT, b"\n");
-}
-
-// A text and the three numbers of a refusal; the extra is 0.
-fn refusal(text: &[u8], number: u64, place: u64) {
-    io::write_all(OUT, text);
-    io::write_all(OUT, b" ");
-    io::print_decimal(OUT, number);
-    io::write_all(OUT, b" ");
-    io::print_decimal(OUT, place);
-    io::write_all(OUT, b" 0\n");
-}
-
-// The sizes of all tags together.
-fn total_size() -> u64 {
-    let mut sum: u64 = 0;
-    let mut t: u16 = 0;
-    while t < 256 {
-        sum += tables::size_of(t as u8) as u64;
-        t += 1;
-    }
-    sum
 }
 
 // The record of a tag that the base emits, into the part of the listing that begins at it: 1 where it is written.
@@ -122,6 +132,47 @@ fn seen(s: &[u8]) -> u64 {
     n as u64
 }
 
+// Whether a record of 17 bytes reads as the whole one does, with a 0 for its last byte.
+fn cut_reads(part: &[u8]) -> bool {
+    if part.len() == Record::LENGTH {
+        let whole = records::read_record(part, 0);
+        let short = records::read_record(&part[0..17], 0);
+        let value = whole.value - whole.value % 256;
+        return same_record(
+            short,
+            Record {
+                tag: whole.tag,
+                small: whole.small,
+                first: whole.first,
+                second: whole.second,
+                line: whole.line,
+                flags: whole.flags,
+                value,
+            },
+        );
+    }
+    false
+}
+
+// How many records do so.
+fn cut(s: &[u8]) -> u64 {
+    let mut found: u64 = 0;
+    let mut n: usize = 0;
+    while n < 77 {
+        found += one_if(cut_reads(listings::view(s, n)));
+        n += 1;
+    }
+    found
+}
+
+// Whether a listing is taken.
+fn taken(s: &[u8]) -> bool {
+    match listings::check_listing(s) {
+        Checked::Good { .. } => true,
+        Checked::Bad => false,
+    }
+}
+
 // 1 where the listing is refused with the byte at `at` one higher. The byte is put back.
 fn damaged(s: &mut [u8], at: usize) -> u64
     ensures { λ r. ⌜ r ≤ 1 ⌝ }
@@ -131,12 +182,9 @@ fn damaged(s: &mut [u8], at: usize) -> u64
     }
     let old = s[at];
     s[at] = std::num::wrapping_add_u8(old, 1);
-    let checked = listings::check_listing(s);
+    let refused = !taken(s);
     s[at] = old;
-    match checked {
-        Checked::Good(_) => 0,
-        Checked::Bad => 1,
-    }
+    one_if(refused)
 }
 
 // How many listings are refused with one byte damaged, from `at` to the end in steps of so many bytes.
@@ -165,6 +213,33 @@ fn damage_records(s: &mut [u8], end: usize)
     }
 }
 
+// 1 where the record with the byte at `at` one higher is good by itself just where the listing is taken. The byte is put back.
+fn alone(s: &mut [u8], at: usize) -> u64
+    ensures { λ r. ⌜ r ≤ 1 ⌝ }
+{
+    if at < listings::FRONT || s.len() <= at {
+        return 0;
+    }
+    let start = at - (at - listings::FRONT) % Record::LENGTH;
+    let old = s[at];
+    s[at] = std::num::wrapping_add_u8(old, 1);
+    let good = records::good_record(records::read_record(s, start));
+    let same = good == taken(s);
+    s[at] = old;
+    one_if(same)
+}
+
+// How many bytes of records, damaged one at a time, decide so.
+fn all_alone(s: &mut [u8]) -> u64 {
+    let mut found: u64 = 0;
+    let mut at = listings::FRONT;
+    while at < LENGTH {
+        found += alone(s, at);
+        at += 1;
+    }
+    found
+}
+
 fn say(text: &[u8], v: Viewed) {
     match v {
         Viewed::Seen => {
@@ -172,33 +247,50 @@ fn say(text: &[u8], v: Viewed) {
             io::write_all(OUT, b" seen\n");
         }
         Viewed::Bad => refusal(text, 30, 0),
-        Viewed::Past(n) => refusal(text, 22, n as u64),
+        Viewed::Past { number } => refusal(text, 22, number as u64),
     }
 }
 
-fn run(s: &mut [u8]) {
+// All tags' records, written into a listing, and then its front.
+fn run_written(s: &mut [u8]) {
     let written = fill(s);
     line(b"written", written as u64);
-    line(b"size", total_size());
     say(b"no front", listings::view_check(s, 0));
     listings::write_front(s, written);
+}
+
+// The listing checked, and its records seen.
+fn run_seen(s: &[u8]) {
     match listings::check_listing(s) {
-        Checked::Good(n) => line(b"checked", n as u64),
+        Checked::Good { count } => line(b"checked", count as u64),
         Checked::Bad => line(b"checked", 0),
     }
     line(b"seen", seen(s));
+    line(b"seen without the last byte", cut(s));
     say(b"first", listings::view_check(s, 0));
     say(b"last", listings::view_check(s, 76));
     say(b"past", listings::view_check(s, 77));
+    say(b"far past", listings::view_check(s, 1000));
+}
+
+// The listing with one byte damaged at a time.
+fn run_damaged(s: &mut [u8]) {
     damage_records(s, LENGTH);
     line(
         b"front bytes damaged, refused",
         damaged_from(s, 0, listings::FRONT, 1),
     );
+    line(b"damaged, a record alone decides", all_alone(s));
     line(b"seen again", seen(s));
 }
 
 fn main() {
+    forms::run_tables();
+    forms::run_numbers();
+    run_front(b"1048576 records", 1048576);
+    run_front(b"1048577 records", 1048577);
     let mut listing = [0u8; LENGTH];
-    run(&mut listing);
+    run_written(&mut listing);
+    run_seen(&listing);
+    run_damaged(&mut listing);
 }

@@ -3,25 +3,26 @@ use Prim.Native.Nat.{ℕ, zero, suc, _+_, _-_, _≤_, _<_}
 use mathlib.Core.Path.{_≡_, refl, sym, ap, _∙_}
 use mathlib.Core.List.{List, [], _∷_}
 use mathlib.Core.Logic.{⊎-elim}
-use mathlib.Core.Bool.{Bool, true, false, not, _||_}
+use mathlib.Core.Bool.{Bool, true, false, not, _&&_, _||_}
 use native.Mathlib.Omega.{arith}
+use native.Mathlib.Decide.{decLt}
 use native.Mathlib.Nat.{zero-add, add-zero}
-use lib.Dec.{eqb}
-use lib.ListN.{length, getD}
-use borrow.Author.Tests.{eq-eqb, ne-eqb, eqb-true, eqb-false}
+use lib.Dec.{leb, ltb, eqb}
+use lib.ListN.{length, getD, List·getD-eq-default}
+use borrow.Author.Tests.{lt-ltb, le-ltb, ltb-true, ltb-false, lt-leb, le-leb, leb-true, leb-false, eq-eqb, ne-eqb, eqb-true, eqb-false}
 use denote.Enum.Declared.{tagOf}
 use types.Run.{OneOf}
 use Rattle.ir.proofs.Arg.{the-type as arg-type}
 use Rattle.definitions.specs.Answer.{ok}
 use Rattle.definitions.specs.Bytes.{number}
-use Rattle.definitions.specs.Tree.{Expr, intrinsic, exprs}
+use Rattle.definitions.specs.Tree.{Expr, intrinsic, exprsOf}
 use Rattle.definitions.specs.Lower.{isPrvalue, onePrvalue, isFlagged}
-use Rattle.definitions.specs.Read.{Parser, _>>=_, give, refuse, pick, filling, asNop, asConst, asNull, asNewInstance, asConstruct, asAssign, asConditional, asDynCast, asFreeCall, asStaticCall, asInstanceCall, asClosureCall, exprKinds, exprBody, parseExpr}
+use Rattle.definitions.specs.Read.{Parser, _>>=_, give, unknownKind, pick, filling, asNop, asConst, asNull, asNewInstance, asConstruct, asAssign, asConditional, asDynCast, asFreeCall, asStaticCall, asInstanceCall, asClosureCall, exprKinds, exprBody, parseExpr}
 use Rattle.ir.specs.Places.{endOf}
-use Rattle.ir.specs.Args.{Readable, Tells, intrinsicAt, placeKind, argAt, notPlace}
+use Rattle.ir.specs.Args.{intrinsicAt, placeKind, argAt, notPlace, prvalueAt, flaggedHead, flaggedAt}
 use Rattle.ir.specs.declared.Arg.{Arg}
 use Rattle.ir.specs.declared.Arg.the-variants.{AsRef, Place, Value}
-use Rattle.ir.proofs.Inversion.{never, bind-ok, give-ok, expr-ok, expr-at, expr-moves, fill-some, fill-none}
+use Rattle.ir.proofs.Inversion.{impossible, refused-not-ok, bind-ok, give-ok, expr-ok, expr-at, expr-moves, fill-some, fill-none}
 use Rattle.ir.proofs.ExprPlaces.{field-at, index-at, local-at, intrinsic-at}
 
 -- 1. The kinds whose head says nothing
@@ -42,8 +43,8 @@ Each P [] b = Unit {0}
 Each P (p ∷ ps) b = Always (P b) p × Each P ps (suc b)
 
 pick-each : (P : ℕ → Expr → Type 0) (ps : List (Parser Expr)) (b at k m : ℕ) (e : Expr) (n : ℕ) → Each P ps b → pick ps at k m ≡ ok e n → P (b + k) e
-unfolding pick refuse
-pick-each P [] b at k m e n h r = never r
+unfolding pick unknownKind
+pick-each P [] b at k m e n h r = refused-not-ok r
 pick-each P (p ∷ ps) b at zero m e n h r = rw (add-zero b) (h .0 m e n r)
 pick-each P (p ∷ ps) b at (suc k) m e n h r =
     let s : suc b + k ≡ b + suc k = omega arith in
@@ -57,9 +58,9 @@ abbrev PlainBut : ℕ → Expr → Type 0
 PlainBut k e = (k ≡ 7 → ⊥) → (k ≡ 8 → ⊥) → (k ≡ 11 → ⊥) → (k ≡ 12 → ⊥) → Plain e
 
 each-kind : (s : List ℕ) (child : ℕ → Parser Expr) (at end : ℕ) → Each PlainBut (exprKinds s child at end) 0
-unfolding exprKinds refuse asNop asConst asNull asNewInstance asConstruct asAssign asConditional asDynCast asFreeCall asStaticCall asInstanceCall asClosureCall isPrvalue isFlagged
+unfolding exprKinds unknownKind asNop asConst asNull asNewInstance asConstruct asAssign asConditional asDynCast asFreeCall asStaticCall asInstanceCall asClosureCall isPrvalue isFlagged
 each-kind s child at end = (
-  λ m a n e. never e,
+  λ m a n e. refused-not-ok e,
   (
     at-last (PlainBut 1) _ (λ _ _ _ _. (refl, refl)),
     (
@@ -124,9 +125,34 @@ same-run p xs n t g f h j e = rw (h, j) at e
 -- an AsRef call's arguments, from `first` up to `stop`
 record AsRefOf (d : ℕ) (s : List ℕ) (holder : ℕ) (e : Expr) (first stop : ℕ) : Type 0 where
   args : List Expr
-  flagged : isFlagged e ≡ onePrvalue (exprs args)
+  flagged : isFlagged e ≡ onePrvalue (exprsOf args)
   reads : filling (parseExpr d s) stop first ≡ ok args stop
   tail : stop ≤ holder
+
+module _ (s : List ℕ) (at : ℕ) where
+  as-ref-code : (f t : ℕ) (a b : Bool) → a ≡ eqb (getD s (at + 5) 0) 28 → AsRef f t ≡ (elim a as (λ _. Arg) [ true ↦ AsRef (at + 16) (endOf s (at + 12)) | false ↦ elim b as (λ _. Arg) [ true ↦ Place | false ↦ Value ] ])
+      → (getD s (at + 5) 0 ≡ 28) × (f ≡ at + 16) × (t ≡ endOf s (at + 12))
+  as-ref-code f t true b ea h = (eqb-true (getD s (at + 5) 0) 28 (sym ea), cc, cc)
+  as-ref-code f t false true ea h = impossible (cc)
+  as-ref-code f t false false ea h = impossible (cc)
+
+  as-ref-kind : (f t : ℕ) (a b : Bool) → a ≡ eqb (getD s (at + 4) 0) 12 → AsRef f t ≡ (elim a as (λ _. Arg) [ true ↦ intrinsicAt s at | false ↦ elim b as (λ _. Arg) [ true ↦ Place | false ↦ Value ] ])
+      → (getD s (at + 4) 0 ≡ 12) × (getD s (at + 5) 0 ≡ 28) × (f ≡ at + 16) × (t ≡ endOf s (at + 12))
+  unfolding intrinsicAt
+  as-ref-kind f t true b ea h = let i = as-ref-code f t (eqb (getD s (at + 5) 0) 28) (eqb (getD s (at + 5) 0) 29) refl h in (eqb-true (getD s (at + 4) 0) 12 (sym ea), i .0, i .1, i .2)
+  as-ref-kind f t false true ea h = impossible (cc)
+  as-ref-kind f t false false ea h = impossible (cc)
+
+  -- a call with an AsRef head begins within the unit, since past the end stand zeros
+  as-ref-in : (f t : ℕ) → AsRef f t ≡ argAt s at → f < length s + 16
+  unfolding argAt
+  as-ref-in f t h = elim (decLt at (length s)) [
+    | yes l ↦ omega (arith, kind .2)
+    | no l ↦ let z : getD s (at + 4) 0 ≡ 0 = List·getD-eq-default s 0 (omega arith) in absurd (omega (arith, kind .0))
+  ]
+    where
+      kind : (getD s (at + 4) 0 ≡ 12) × (getD s (at + 5) 0 ≡ 28) × (f ≡ at + 16) × (t ≡ endOf s (at + 12))
+      kind = as-ref-kind f t (eqb (getD s (at + 4) 0) 12) (placeKind (getD s (at + 4) 0)) refl h
 
 module _ (s : List ℕ) (at depth holder next : ℕ) (e : Expr) (r : parseExpr depth s holder at ≡ ok e next) where
   plain : PlainBut (getD s (at + 4) 0) e
@@ -147,16 +173,16 @@ module _ (s : List ℕ) (at depth holder next : ℕ) (e : Expr) (r : parseExpr d
       go true b c ea eb ec h = let i = field-at depth s holder at e next r (eqb-true (getD s (at + 4) 0) 7 (sym ea)) in (rw (i .tree), rw (i .tree))
       go false true c ea eb ec h = let i = index-at depth s holder at e next r (eqb-true (getD s (at + 4) 0) 8 (sym eb)) in (rw (i .tree), rw (i .tree))
       go false false true ea eb ec h = let i = local-at depth s holder at e next r (eqb-true (getD s (at + 4) 0) 11 (sym ec)) in (rw (i .tree), rw (i .tree))
-      go false false false ea eb ec h = let z : _≡_ {A = ℕ} 0 1 = cc in absurd (omega arith)
+      go false false false ea eb ec h = impossible (cc)
 
   not-place : placeKind (getD s (at + 4) 0) ≡ false → (getD s (at + 4) 0 ≡ 12 → ⊥) → Plain e
   unfolding placeKind
   not-place h = go (eqb (getD s (at + 4) 0) 7) (eqb (getD s (at + 4) 0) 8) (eqb (getD s (at + 4) 0) 11) refl refl refl h
     where
       go : (a b c : Bool) → a ≡ eqb (getD s (at + 4) 0) 7 → b ≡ eqb (getD s (at + 4) 0) 8 → c ≡ eqb (getD s (at + 4) 0) 11 → a || b || c ≡ false → (getD s (at + 4) 0 ≡ 12 → ⊥) → Plain e
-      go true b c ea eb ec h z = let y : _≡_ {A = ℕ} 0 1 = cc in absurd (omega arith)
-      go false true c ea eb ec h z = let y : _≡_ {A = ℕ} 0 1 = cc in absurd (omega arith)
-      go false false true ea eb ec h z = let y : _≡_ {A = ℕ} 0 1 = cc in absurd (omega arith)
+      go true b c ea eb ec h z = impossible (cc)
+      go false true c ea eb ec h z = impossible (cc)
+      go false false true ea eb ec h z = impossible (cc)
       go false false false ea eb ec h z =
           plain (eqb-false (getD s (at + 4) 0) 7 (sym ea)) (eqb-false (getD s (at + 4) 0) 8 (sym eb)) (eqb-false (getD s (at + 4) 0) 11 (sym ec)) z
 
@@ -181,7 +207,7 @@ module _ (s : List ℕ) (at depth holder next : ℕ) (e : Expr) (r : parseExpr d
 
   flag-code : (a b : Bool) → a ≡ eqb (getD s (at + 5) 0) 28 → getD s (at + 4) 0 ≡ 12
       → isAsRef (elim a as (λ _. Arg) [ true ↦ AsRef (at + 16) (endOf s (at + 12)) | false ↦ elim b as (λ _. Arg) [ true ↦ Place | false ↦ Value ] ]) ≡ false → isFlagged e ≡ false
-  flag-code true b ea k h = let z : _≡_ {A = ℕ} 0 1 = cc in absurd (omega arith)
+  flag-code true b ea k h = impossible (cc)
   flag-code false b ea k h = is-12 k .1 (sym ea)
 
   flag-kind : (a b : Bool) → a ≡ eqb (getD s (at + 4) 0) 12 → b ≡ placeKind (getD s (at + 4) 0)
@@ -195,27 +221,14 @@ module _ (s : List ℕ) (at depth holder next : ℕ) (e : Expr) (r : parseExpr d
   unfolding argAt
   unflagged-by h = flag-kind _ _ refl refl h
 
-  as-ref-code : (f t : ℕ) (a b : Bool) → a ≡ eqb (getD s (at + 5) 0) 28 → AsRef f t ≡ (elim a as (λ _. Arg) [ true ↦ AsRef (at + 16) (endOf s (at + 12)) | false ↦ elim b as (λ _. Arg) [ true ↦ Place | false ↦ Value ] ])
-      → (getD s (at + 5) 0 ≡ 28) × (f ≡ at + 16) × (t ≡ endOf s (at + 12))
-  as-ref-code f t true b ea h = (eqb-true (getD s (at + 5) 0) 28 (sym ea), cc, cc)
-  as-ref-code f t false true ea h = let z : _≡_ {A = ℕ} 0 1 = cc in absurd (omega arith)
-  as-ref-code f t false false ea h = let z : _≡_ {A = ℕ} 0 1 = cc in absurd (omega arith)
-
-  as-ref-kind : (f t : ℕ) (a b : Bool) → a ≡ eqb (getD s (at + 4) 0) 12 → AsRef f t ≡ (elim a as (λ _. Arg) [ true ↦ intrinsicAt s at | false ↦ elim b as (λ _. Arg) [ true ↦ Place | false ↦ Value ] ])
-      → (getD s (at + 4) 0 ≡ 12) × (getD s (at + 5) 0 ≡ 28) × (f ≡ at + 16) × (t ≡ endOf s (at + 12))
-  unfolding intrinsicAt
-  as-ref-kind f t true b ea h = let i = as-ref-code f t (eqb (getD s (at + 5) 0) 28) (eqb (getD s (at + 5) 0) 29) refl h in (eqb-true (getD s (at + 4) 0) 12 (sym ea), i .0, i .1, i .2)
-  as-ref-kind f t false true ea h = let z : _≡_ {A = ℕ} 0 1 = cc in absurd (omega arith)
-  as-ref-kind f t false false ea h = let z : _≡_ {A = ℕ} 0 1 = cc in absurd (omega arith)
-
-  flags-as : (k m y i : ℕ) (es : List Expr) → k ≡ 28 → e ≡ intrinsic at k m y i (exprs es) → isFlagged e ≡ onePrvalue (exprs es)
+  flags-as : (k m y i : ℕ) (es : List Expr) → k ≡ 28 → e ≡ intrinsic at k m y i (exprsOf es) → isFlagged e ≡ onePrvalue (exprsOf es)
   unfolding isFlagged
   flags-as k m y i es h j = rw (j, h)
 
   as-ref-of : (f t : ℕ) → AsRef f t ≡ argAt s at → AsRefOf (depth - 1) s holder e f t
   unfolding argAt
   as-ref-of f t h =
-      let k = as-ref-kind f t (eqb (getD s (at + 4) 0) 12) (placeKind (getD s (at + 4) 0)) refl h in
+      let k = as-ref-kind s at f t (eqb (getD s (at + 4) 0) 12) (placeKind (getD s (at + 4) 0)) refl h in
       let i = intrinsic-at depth s holder at e next r (k .0) in
       let j = expr-at depth s holder at r in
       let n : next ≡ t = i .run .ends ∙ sym (k .3) in
@@ -227,16 +240,72 @@ module _ (s : List ℕ) (at depth holder next : ℕ) (e : Expr) (r : parseExpr d
         tail = omega (arith, j .tail);
       }
 
--- 3. What the functions say
+-- 3. What bytes and tree say is the same
 
-pub told : (s : List ℕ) (at : ℕ) (a : Arg) (b : Bool) → a ≡ argAt s at → notPlace a ≡ b → Tells isPrvalue s at b
-told s at a b h k d holder n e r = sym k ∙ ap notPlace h ∙ prvalue-by s at d holder n e r
+two : (xs : List Expr) (x : Expr) (ys : List Expr) (y : Expr) (zs : List Expr) → xs ≡ x ∷ ys → ys ≡ y ∷ zs → onePrvalue (exprsOf xs) ≡ false
+unfolding onePrvalue exprsOf
+two xs x ys y zs h j = rw (h, j)
+
+module _ (d : ℕ) (s : List ℕ) (holder : ℕ) (e : Expr) (first stop : ℕ) (i : AsRefOf d s holder e first stop) where
+  none-flagged : stop ≤ first → isFlagged e ≡ false
+  unfolding onePrvalue exprsOf
+  none-flagged l =
+      let x = fill-none (parseExpr d s) stop (expr-moves d s stop) first l (i .reads) in
+      i .flagged ∙ ap (λ (xs : List Expr). onePrvalue (exprsOf xs)) (x .0)
+
+  -- the first argument ends where its length says
+  many-flagged : first < stop → endOf s first < stop → isFlagged e ≡ false
+  many-flagged l m =
+      let x = fill-some (parseExpr d s) stop (expr-moves d s stop) first l (i .reads) in
+      let j = expr-at d s stop first (x .3) in
+      let k : x .1 < stop = omega (arith, j .ends) in
+      let y = fill-some (parseExpr d s) stop (expr-moves d s stop) (x .1) k (x .5) in
+      i .flagged ∙ two (i .args) (x .0) (x .2) (y .0) (y .2) (x .4) (y .4)
+
+  one-flagged : first < stop → stop ≤ endOf s first → isFlagged e ≡ prvalueAt s first
+  unfolding onePrvalue exprsOf prvalueAt
+  one-flagged l m =
+      let x = fill-some (parseExpr d s) stop (expr-moves d s stop) first l (i .reads) in
+      let j = expr-at d s stop first (x .3) in
+      let k : stop ≤ x .1 = omega (arith, j .ends) in
+      let y = fill-none (parseExpr d s) stop (expr-moves d s stop) (x .1) k (x .5) in
+      i .flagged ∙ ap (λ (xs : List Expr). onePrvalue (exprsOf xs)) (x .4 ∙ ap (λ (ys : List Expr). x .0 ∷ ys) (y .0)) ∙ sym (prvalue-by s first d stop (x .1) (x .0) (x .3))
+
+  head-flagged : flaggedHead s (AsRef first stop) ≡ isFlagged e
+  unfolding flaggedHead
+  head-flagged = go (ltb first stop) (leb stop (endOf s first)) refl refl
+    where
+      go : (a b : Bool) → ltb first stop ≡ a → leb stop (endOf s first) ≡ b → a && (b && prvalueAt s first) ≡ isFlagged e
+      go true true ea eb = sym (one-flagged (ltb-true first stop ea) (leb-true stop (endOf s first) eb))
+      go true false ea eb = sym (many-flagged (ltb-true first stop ea) (leb-false stop (endOf s first) eb))
+      go false b ea eb = sym (none-flagged (ltb-false first stop ea))
+
+-- of an expression that is read
+module _ (s : List ℕ) (at depth holder next : ℕ) (e : Expr) (r : parseExpr depth s holder at ≡ ok e next) where
+  pub prvalue-read : prvalueAt s at ≡ isPrvalue e
+  unfolding prvalueAt
+  prvalue-read = prvalue-by s at depth holder next e r
+
+  pub flagged-read : flaggedAt s at ≡ isFlagged e
+  unfolding flaggedHead
+  flagged-read = go (argAt s at) refl
+    where
+      go : (a : Arg) → a ≡ argAt s at → flaggedHead s a ≡ isFlagged e
+      go (AsRef first stop) h = head-flagged (depth - 1) s holder e first stop (as-ref-of s at depth holder next e r first stop h)
+      go Place h = sym (unflagged-by s at depth holder next e r (sym (ap isAsRef h)))
+      go Value h = sym (unflagged-by s at depth holder next e r (sym (ap isAsRef h)))
+
+-- 4. What the functions say
+
+pub told : (s : List ℕ) (at : ℕ) (a : Arg) (b : Bool) → a ≡ argAt s at → notPlace a ≡ b → b ≡ prvalueAt s at
+unfolding prvalueAt
+told s at a b h k = sym k ∙ ap notPlace h
 
 pub place-tag : (a : Arg) → tagOf arg-type a ≡ 1 → notPlace a ≡ false
 unfolding notPlace
-place-tag (AsRef f t) h = let z : _≡_ {A = ℕ} 0 1 = cc in absurd (omega arith)
+place-tag (AsRef f t) h = impossible h
 place-tag Place h = refl
-place-tag Value h = let z : _≡_ {A = ℕ} 0 1 = cc in absurd (omega arith)
+place-tag Value h = impossible (cc)
 
 pub value-tag : (a : Arg) → tagOf arg-type a ≡ 2 → notPlace a ≡ true
 unfolding notPlace
@@ -248,76 +317,38 @@ pub as-ref-true : (a : Arg) (f t : ℕ) → a ≡ AsRef f t → notPlace a ≡ t
 unfolding notPlace
 as-ref-true a f t h = rw h
 
-pub unflagged : (s : List ℕ) (at : ℕ) (a : Arg) → a ≡ argAt s at → OneOf (1 ∷ 2 ∷ []) (tagOf arg-type a) → Tells isFlagged s at false
-unflagged s at (AsRef f t) h k d holder n e r = ⊎-elim (λ z. absurd (tag-1 z)) (λ z. absurd (tag-2 z)) k
+-- an argument that is no AsRef call
+pub unflagged : (s : List ℕ) (at : ℕ) (a : Arg) → a ≡ argAt s at → OneOf (1 ∷ 2 ∷ []) (tagOf arg-type a) → false ≡ flaggedAt s at
+unfolding flaggedHead
+unflagged s at (AsRef f t) h k = ⊎-elim (λ z. impossible z) (λ z. absurd (tag-2 z)) k
   where
-    tag-1 : _≡_ {A = ℕ} 0 1 → ⊥
-    tag-1 z = omega arith
-
     tag-2 : _≡_ {A = ℕ} 0 2 → ⊥
     tag-2 z = omega arith
-unflagged s at Place h k d holder n e r = sym (unflagged-by s at d holder n e r (sym (ap isAsRef h)))
-unflagged s at Value h k d holder n e r = sym (unflagged-by s at d holder n e r (sym (ap isAsRef h)))
-
-two : (xs : List Expr) (x : Expr) (ys : List Expr) (y : Expr) (zs : List Expr) → xs ≡ x ∷ ys → ys ≡ y ∷ zs → onePrvalue (exprs xs) ≡ false
-unfolding onePrvalue exprs
-two xs x ys y zs h j = rw (h, j)
-
-module _ (s : List ℕ) (first stop : ℕ) where
-  none-flagged : (d holder : ℕ) (e : Expr) → AsRefOf d s holder e first stop → stop ≤ first → isFlagged e ≡ false
-  unfolding onePrvalue exprs
-  none-flagged d holder e i l =
-      let x = fill-none (parseExpr d s) stop (expr-moves d s stop) first l (i .reads) in
-      i .flagged ∙ ap (λ (xs : List Expr). onePrvalue (exprs xs)) (x .0)
-
-  -- the first argument ends where its length says
-  many-flagged : (d holder : ℕ) (e : Expr) → AsRefOf d s holder e first stop → first < stop → endOf s first < stop → isFlagged e ≡ false
-  many-flagged d holder e i l m =
-      let x = fill-some (parseExpr d s) stop (expr-moves d s stop) first l (i .reads) in
-      let j = expr-at d s stop first (x .3) in
-      let k : x .1 < stop = omega (arith, j .ends) in
-      let y = fill-some (parseExpr d s) stop (expr-moves d s stop) (x .1) k (x .5) in
-      i .flagged ∙ two (i .args) (x .0) (x .2) (y .0) (y .2) (x .4) (y .4)
-
-  one-flagged : (d holder : ℕ) (e : Expr) (b : Bool) → AsRefOf d s holder e first stop → first < stop → stop ≤ endOf s first → Tells isPrvalue s first b → b ≡ isFlagged e
-  unfolding onePrvalue exprs
-  one-flagged d holder e b i l m t =
-      let x = fill-some (parseExpr d s) stop (expr-moves d s stop) first l (i .reads) in
-      let j = expr-at d s stop first (x .3) in
-      let k : stop ≤ x .1 = omega (arith, j .ends) in
-      let y = fill-none (parseExpr d s) stop (expr-moves d s stop) (x .1) k (x .5) in
-      t d stop (x .1) (x .0) (x .3) ∙ sym (i .flagged ∙ ap (λ (xs : List Expr). onePrvalue (exprs xs)) (x .4 ∙ ap (λ (ys : List Expr). x .0 ∷ ys) (y .0)))
-
-  first-of : (d holder : ℕ) (e : Expr) → AsRefOf d s holder e first stop → holder ≤ length s → first < stop → Readable s first
-  first-of d holder e i h l =
-      let x = fill-some (parseExpr d s) stop (expr-moves d s stop) first l (i .reads) in
-      record { depth = d; holder = stop; tree = x .0; next = x .1; reads = x .3; inside = omega (arith, i .tail) }
+unflagged s at Place h k = ap (flaggedHead s) h
+unflagged s at Value h k = ap (flaggedHead s) h
 
 -- the same at the code's values: `a` is the argument's head
 module _ (s : List ℕ) (at : ℕ) (a : Arg) (first stop : ℕ) (q : a ≡ AsRef first stop) (h : a ≡ argAt s at) where
-  pub no-argument : stop ≤ first → Tells isFlagged s at false
-  no-argument l d holder n e r = sym (none-flagged s first stop _ holder e (as-ref-of s at d holder n e r first stop (sym q ∙ h)) l)
+  flagged-here : flaggedHead s (AsRef first stop) ≡ flaggedAt s at
+  flagged-here = ap (flaggedHead s) (sym q ∙ h)
 
-  pub more-arguments : (v : ℕ) → v ≡ number 4 s first → first < stop → first + 4 + v < stop → Tells isFlagged s at false
-  more-arguments v w l m d holder n e r = sym (many-flagged s first stop _ holder e (as-ref-of s at d holder n e r first stop (sym q ∙ h)) l (rw w at m))
+  pub no-argument : stop ≤ first → false ≡ flaggedAt s at
+  unfolding flaggedHead
+  no-argument l = simp (le-ltb first stop l) at flagged-here
 
-  pub one-argument : (v : ℕ) (b : Bool) → v ≡ number 4 s first → first < stop → stop ≤ first + 4 + v → Tells isPrvalue s first b → Tells isFlagged s at b
-  one-argument v b w l m t d holder n e r = one-flagged s first stop _ holder e b (as-ref-of s at d holder n e r first stop (sym q ∙ h)) l (rw w at m) t
+  pub more-arguments : (v : ℕ) → v ≡ number 4 s first → first < stop → first + 4 + v < stop → false ≡ flaggedAt s at
+  unfolding flaggedHead
+  more-arguments v w l m = simp (lt-ltb first stop l, lt-leb stop (endOf s first) (rw w at m)) at flagged-here
 
-  pub first-argument : Readable s at → first < stop → Readable s first
-  first-argument r l = first-of s first stop _ (r .holder) (r .tree) (as-ref-of s at (r .depth) (r .holder) (r .next) (r .tree) (r .reads) first stop (sym q ∙ h)) (r .inside) l
+  pub one-argument : (v : ℕ) (b : Bool) → v ≡ number 4 s first → first < stop → stop ≤ first + 4 + v → b ≡ prvalueAt s first → b ≡ flaggedAt s at
+  unfolding flaggedHead
+  one-argument v b w l m t = t ∙ simp (lt-ltb first stop l, le-leb stop (endOf s first) (rw w at m)) at flagged-here
 
--- where a readable expression and its parts end
-pub readable-in : (s : List ℕ) (at : ℕ) → Readable s at → (at + 5 ≤ endOf s at) × (endOf s at ≤ length s)
-readable-in s at r = let i = expr-at (r .depth) s (r .holder) at (r .reads) in (omega (arith, i .head, i .ends), omega (arith, i .tail, i .ends, r .inside))
+  -- a call's arguments begin at most 16 bytes past the end
+  pub first-in : first < length s + 16
+  first-in = as-ref-in s at first stop (sym q ∙ h)
 
-pub intrinsic-in : (s : List ℕ) (at kind b : ℕ) → Readable s at → kind ≡ b → b ≡ getD s (at + 4) 0 → kind ≡ 12 → at + 16 ≤ length s
-intrinsic-in s at kind b r h j k =
-    let i = intrinsic-at (r .depth) s (r .holder) at (r .tree) (r .next) (r .reads) (sym j ∙ sym h ∙ k) in
-    let x = expr-at (r .depth) s (r .holder) at (r .reads) in
-    omega (arith, i .run .head, x .tail, r .inside)
-
--- 4. The heads: `kind` and `code` are the bytes that the code has read
+-- 5. The heads: `kind` and `code` are the bytes that the code has read
 
 pub a-place : (s : List ℕ) (at kind n : ℕ) → kind ≡ getD s (at + 4) 0 → kind ≡ n → eqb n 12 ≡ false → placeKind n ≡ true → Place ≡ argAt s at
 unfolding argAt
@@ -331,6 +362,12 @@ pub a-value : (s : List ℕ) (at kind : ℕ) → kind ≡ getD s (at + 4) 0 → 
 unfolding argAt placeKind
 a-value s at kind h k₇ k₈ k₁₁ k₁₂ =
     simp (ne-eqb (getD s (at + 4) 0) 7 (λ z. k₇ (h ∙ z)), ne-eqb (getD s (at + 4) 0) 8 (λ z. k₈ (h ∙ z)), ne-eqb (getD s (at + 4) 0) 11 (λ z. k₁₁ (h ∙ z)), ne-eqb (getD s (at + 4) 0) 12 (λ z. k₁₂ (h ∙ z)), argAt, placeKind)
+
+-- past the end stand zeros
+pub past-value : (s : List ℕ) (at : ℕ) → length s ≤ at → Value ≡ argAt s at
+past-value s at h =
+    let z : getD s (at + 4) 0 ≡ 0 = List·getD-eq-default s 0 (omega arith) in
+    a-value s at 0 (sym z) (omega arith) (omega arith) (omega arith) (omega arith)
 
 pub an-as-ref : (s : List ℕ) (at code v : ℕ) → code ≡ getD s (at + 5) 0 → code ≡ 28 → v ≡ number 4 s (at + 12) → AsRef (at + 16) (at + 16 + v) ≡ intrinsicAt s at
 unfolding intrinsicAt

@@ -6,16 +6,16 @@ use native.Mathlib.Omega.{arith}
 use lib.ListN.{length, getD}
 use Rattle.definitions.specs.Answer.{ok}
 use Rattle.definitions.specs.Bytes.{number}
-use Rattle.definitions.specs.Tree.{Expr, nop, element, intrinsic, freeCall, staticCall, instanceCall, closureCall, exprs}
-use Rattle.definitions.specs.Read.{Parser, refuse, pick, asNop, asConst, asNull, asNewInstance, asConstruct, asAssign, asField, asIndex, asConditional, asDynCast, asLocal, asIntrinsic, asFreeCall, asStaticCall, asInstanceCall, asClosureCall, exprKinds, exprBody, parseExpr}
+use Rattle.definitions.specs.Tree.{Expr, nop, index, intrinsic, freeCall, staticCall, instanceCall, closureCall, exprsOf}
+use Rattle.definitions.specs.Read.{Parser, unknownKind, pick, asNop, asConst, asNull, asNewInstance, asConstruct, asAssign, asField, asIndex, asConditional, asDynCast, asLocal, asIntrinsic, asFreeCall, asStaticCall, asInstanceCall, asClosureCall, exprKinds, exprBody, parseExpr}
 use Rattle.ir.specs.Places.{endOf, NopAt, ConstAt, NullAt, NewInstanceAt, ConstructAt, AssignAt, FieldAt, IndexAt, ConditionalAt, DynCastAt, LocalAt, IntrinsicAt, FreeCallAt, StaticCallAt, InstanceCallAt, ClosureCallAt}
 use Rattle.ir.proofs.Laws.{Nones, past}
-use Rattle.ir.proofs.Inversion.{never, expr-ok, child-ok, unsigned-ok, small-ok, payload-ok, run-ok, give-ok, call-ok, one-byte}
+use Rattle.ir.proofs.Inversion.{refused-not-ok, expr-ok, child-ok, unsigned-ok, byte-below-ok, payload-ok, run-ok, give-ok, call-ok, one-byte}
 
 -- there are no more kinds than the list has
 pub no-kind-past : {A X : Type 0} (ps : List (Parser A)) (at k m : ℕ) {a : A} {n : ℕ} → length ps ≤ k → pick ps at k m ≡ ok a n → X
-unfolding pick refuse
-no-kind-past [] at k m h e = never e
+unfolding pick unknownKind
+no-kind-past [] at k m h e = refused-not-ok e
 no-kind-past (p ∷ ps) at zero m h e = absurd (omega arith)
 no-kind-past (p ∷ ps) at (suc k) m h e = no-kind-past ps at k m (omega arith) e
 
@@ -30,7 +30,7 @@ module _ (depth : ℕ) (s : List ℕ) (holder at : ℕ) (e : Expr) (stop : ℕ) 
   pub const-at : getD s (at + 4) 0 ≡ 2 → ConstAt s at stop e
   unfolding exprBody exprKinds pick asConst
   const-at k =
-      let b = small-ok s at stop 16 _ (at + 5) (reads-as 2 k) in
+      let b = byte-below-ok s at stop 16 _ (at + 5) (reads-as 2 k) in
       let six : at + 5 + 1 ≡ at + 6 = omega arith in
       let v = payload-ok s at stop (getD s (at + 5) 0) _ (at + 6) (rw six at (b .1)) in
       let g = give-ok _ _ (v .1) in
@@ -39,7 +39,7 @@ module _ (depth : ℕ) (s : List ℕ) (holder at : ℕ) (e : Expr) (stop : ℕ) 
   pub null-at : getD s (at + 4) 0 ≡ 3 → NullAt s at stop e
   unfolding exprBody exprKinds pick asNull
   null-at k =
-      let b = small-ok s at stop 2 _ (at + 5) (reads-as 3 k) in
+      let b = byte-below-ok s at stop 2 _ (at + 5) (reads-as 3 k) in
       let g = give-ok _ _ (b .1) in
       record { weak = b .0; ends = omega (arith, g .1); tree = g .0 }
 
@@ -70,7 +70,7 @@ module _ (depth : ℕ) (s : List ℕ) (holder at : ℕ) (e : Expr) (stop : ℕ) 
   pub field-at : getD s (at + 4) 0 ≡ 7 → FieldAt (depth - 1) s at stop e
   unfolding exprBody exprKinds pick asField
   field-at k =
-      let b = small-ok s at stop 3 _ (at + 5) (reads-as 7 k) in
+      let b = byte-below-ok s at stop 3 _ (at + 5) (reads-as 7 k) in
       let six : at + 5 + 1 ≡ at + 6 = omega arith in
       let ten : at + 6 + 4 ≡ at + 10 = omega arith in
       let v = unsigned-ok s at stop 4 _ (at + 6) (rw six at (b .1)) in
@@ -81,14 +81,14 @@ module _ (depth : ℕ) (s : List ℕ) (holder at : ℕ) (e : Expr) (stop : ℕ) 
   pub index-at : getD s (at + 4) 0 ≡ 8 → IndexAt (depth - 1) s at stop e
   unfolding exprBody exprKinds pick asIndex
   index-at k =
-      let b = small-ok s at stop 2 _ (at + 5) (reads-as 8 k) in
+      let b = byte-below-ok s at stop 2 _ (at + 5) (reads-as 8 k) in
       let six : at + 5 + 1 ≡ at + 6 = omega arith in
       let ten : at + 6 + 4 ≡ at + 10 = omega arith in
       let v = unsigned-ok s at stop 4 _ (at + 6) (rw six at (b .1)) in
       let a = child-ok (depth - 1) s stop _ (at + 10) (rw ten at (v .1)) in
       let i = child-ok (depth - 1) s stop _ (a .1) (a .3) in
-      let g = give-ok (element at (getD s (at + 5) 0) (number 4 s (at + 6)) (a .0) (i .0)) (i .1) (i .3) in
-      record { array = a .0; index = i .0; second = a .1; dynamic = b .0; one = a .2; two = rw (g .1) at (i .2); tree = g .0 }
+      let g = give-ok (index at (getD s (at + 5) 0) (number 4 s (at + 6)) (a .0) (i .0)) (i .1) (i .3) in
+      record { array = a .0; subscript = i .0; second = a .1; dynamic = b .0; one = a .2; two = rw (g .1) at (i .2); tree = g .0 }
 
   pub conditional-at : getD s (at + 4) 0 ≡ 9 → ConditionalAt (depth - 1) s at stop e
   unfolding exprBody exprKinds pick asConditional
@@ -105,7 +105,7 @@ module _ (depth : ℕ) (s : List ℕ) (holder at : ℕ) (e : Expr) (stop : ℕ) 
       let v = unsigned-ok s at stop 4 _ (at + 5) (reads-as 10 k) in
       let nine : at + 5 + 4 ≡ at + 9 = omega arith in
       let ten : at + 9 + 1 ≡ at + 10 = omega arith in
-      let b = small-ok s at stop 2 _ (at + 9) (rw nine at (v .1)) in
+      let b = byte-below-ok s at stop 2 _ (at + 9) (rw nine at (v .1)) in
       let a = child-ok (depth - 1) s stop _ (at + 10) (rw ten at (b .1)) in
       let g = give-ok _ _ (a .3) in
       record { value = a .0; weak = b .0; one = rw (g .1) at (a .2); tree = g .0 }
@@ -113,7 +113,7 @@ module _ (depth : ℕ) (s : List ℕ) (holder at : ℕ) (e : Expr) (stop : ℕ) 
   pub local-at : getD s (at + 4) 0 ≡ 11 → LocalAt s at stop e
   unfolding exprBody exprKinds pick asLocal
   local-at k =
-      let b = small-ok s at stop 4 _ (at + 5) (reads-as 11 k) in
+      let b = byte-below-ok s at stop 4 _ (at + 5) (reads-as 11 k) in
       let six : at + 5 + 1 ≡ at + 6 = omega arith in
       let v = unsigned-ok s at stop 4 _ (at + 6) (rw six at (b .1)) in
       let g = give-ok _ _ (v .1) in
@@ -122,16 +122,16 @@ module _ (depth : ℕ) (s : List ℕ) (holder at : ℕ) (e : Expr) (stop : ℕ) 
   pub intrinsic-at : getD s (at + 4) 0 ≡ 12 → IntrinsicAt (depth - 1) s at stop e
   unfolding exprBody exprKinds pick asIntrinsic
   intrinsic-at k =
-      let c = small-ok s at stop 34 _ (at + 5) (reads-as 12 k) in
+      let c = byte-below-ok s at stop 34 _ (at + 5) (reads-as 12 k) in
       let six : at + 5 + 1 ≡ at + 6 = omega arith in
       let seven : at + 6 + 1 ≡ at + 7 = omega arith in
       let eight : at + 7 + 1 ≡ at + 8 = omega arith in
       let twelve : at + 8 + 4 ≡ at + 12 = omega arith in
-      let m = small-ok s at stop 2 _ (at + 6) (rw six at (c .1)) in
+      let m = byte-below-ok s at stop 2 _ (at + 6) (rw six at (c .1)) in
       let t = unsigned-ok s at stop 1 _ (at + 7) (rw seven at (m .1)) in
       let i = unsigned-ok s at stop 4 _ (at + 8) (rw (eight, one-byte s (at + 7)) at (t .1)) in
       let l = run-ok s stop (parseExpr (depth - 1) s) _ (at + 12) (rw twelve at (i .1)) in
-      let g = give-ok (intrinsic at (getD s (at + 5) 0) (getD s (at + 6) 0) (getD s (at + 7) 0) (number 4 s (at + 8)) (exprs (l .0))) (endOf s (at + 12)) (l .2) in
+      let g = give-ok (intrinsic at (getD s (at + 5) 0) (getD s (at + 6) 0) (getD s (at + 7) 0) (number 4 s (at + 8)) (exprsOf (l .0))) (endOf s (at + 12)) (l .2) in
       record { args = l .0; code = c .0; short = m .0; run = rw (g .1) at (l .1); tree = g .0 }
 
   pub free-call-at : getD s (at + 4) 0 ≡ 13 → FreeCallAt (depth - 1) s at stop e
@@ -149,7 +149,7 @@ module _ (depth : ℕ) (s : List ℕ) (holder at : ℕ) (e : Expr) (stop : ℕ) 
   pub instance-call-at : getD s (at + 4) 0 ≡ 15 → InstanceCallAt (depth - 1) s at stop e
   unfolding exprBody exprKinds pick asInstanceCall
   instance-call-at k =
-      let b = small-ok s at stop 2 _ (at + 5) (reads-as 15 k) in
+      let b = byte-below-ok s at stop 2 _ (at + 5) (reads-as 15 k) in
       let six : at + 5 + 1 ≡ at + 6 = omega arith in
       let a = child-ok (depth - 1) s stop _ (at + 6) (rw six at (b .1)) in
       let c = call-ok (depth - 1) s at stop (instanceCall at (getD s (at + 5) 0) (a .0)) (a .1) (a .3) in
@@ -163,13 +163,13 @@ module _ (depth : ℕ) (s : List ℕ) (holder at : ℕ) (e : Expr) (stop : ℕ) 
       let l = unsigned-ok s at stop 2 _ (a .1 + 4) (n .1) in
       let six : a .1 + 4 + 2 ≡ a .1 + 6 = omega arith in
       let x = run-ok s stop (parseExpr (depth - 1) s) _ (a .1 + 6) (rw six at (l .1)) in
-      let g = give-ok (closureCall at (a .0) (number 4 s (a .1)) (number 2 s (a .1 + 4)) (exprs (x .0))) (endOf s (a .1 + 6)) (x .2) in
+      let g = give-ok (closureCall at (a .0) (number 4 s (a .1)) (number 2 s (a .1 + 4)) (exprsOf (x .0))) (endOf s (a .1 + 6)) (x .2) in
       record { closure = a .0; args = x .0; second = a .1; one = a .2; run = rw (g .1) at (x .1); tree = g .0 }
 
   -- no node of another kind is read
   pub no-other : {X : Type 0} → Nones 0 16 (getD s (at + 4) 0) → X
-  unfolding exprBody exprKinds pick refuse
+  unfolding exprBody exprKinds pick unknownKind
   no-other h =
-      let z : getD s (at + 4) 0 ≡ 0 → ⊥ = λ k. never (reads-as 0 k) in
+      let z : getD s (at + 4) 0 ≡ 0 → ⊥ = λ k. refused-not-ok (reads-as 0 k) in
       let l : 0 + 16 < getD s (at + 4) 0 = past 0 16 (getD s (at + 4) 0) h (omega arith) in
       no-kind-past (exprKinds s (parseExpr (depth - 1) s) at stop) at (getD s (at + 4) 0) (at + 5) (omega arith) (reads-as (getD s (at + 4) 0) refl)

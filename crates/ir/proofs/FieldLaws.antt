@@ -7,14 +7,14 @@ use native.Mathlib.Omega.{arith}
 use native.Mathlib.Nat.{add-zero, zero-add}
 use native.Mathlib.Numerals.{sub-one}
 use lib.ListN.{length, getD, List·getD-eq-default}
-use lib.Dec.{leb, eqb}
+use lib.Dec.{leb, ltb, eqb}
 use borrow.Author.Tests.{lt-ltb, le-ltb, le-leb, lt-leb, eq-eqb, ne-eqb}
 use Rattle.definitions.specs.Answer.{Answer, ok, refused, bind}
 use Rattle.definitions.specs.Bytes.{number}
 use Rattle.definitions.specs.Tag.{constWidths}
-use Rattle.definitions.specs.Tree.{Callee, Expr, Stmt, Exprs, exprs}
-use Rattle.definitions.specs.Read.{Parser, _>>=_, give, unsigned, small, marks, payload, asConst, asInitDefault, callee, room, span, ended, head, run, arguments}
-use Rattle.ir.specs.Verdict.{verdict, after, counted, countedAfter, numberAfter, headed, cursorOf, valueOf, numberOf, paramsOf, listed, closing, calling}
+use Rattle.definitions.specs.Tree.{Callee, Expr, Stmt, Exprs, exprsOf}
+use Rattle.definitions.specs.Read.{Parser, _>>=_, give, unsigned, byteBelow, markBytes, payload, asConst, asInitDefault, callee, room, span, ended, head, run, arguments}
+use Rattle.ir.specs.Verdict.{verdict, after, counted, countedAfter, numberAfter, headed, cursorOf, valueOf, numberOf, paramsOf, closing, calling}
 use Rattle.ir.specs.declared.Refusal.{Refusal}
 use Rattle.ir.specs.declared.Read.{Read}
 use Rattle.ir.specs.declared.Read.the-variants.{At, Refused}
@@ -24,7 +24,7 @@ use Rattle.ir.specs.declared.Head.{Head}
 use Rattle.ir.specs.declared.Head.the-variants.{Of, No}
 use Rattle.ir.specs.Places.{endOf}
 use Rattle.ir.proofs.Inversion.{bind-ok, unsigned-is, span-is, head-is}
-use Rattle.ir.proofs.Laws.{refusal, gave, over, last, over-counted, over-value, over-to, over-value-to, never, at-ok, is-ok, of-ok, not-number, not-of}
+use Rattle.ir.proofs.Laws.{refusal, gave, over, last, over-counted, over-value, over-to, over-value-to, impossible, at-ok, is-ok, of-ok, not-number, not-of}
 
 -- 1. Numbers
 
@@ -57,49 +57,49 @@ pub one-byte : (s : List ℕ) (at v b : ℕ) → b ≡ getD s at 0 → v ≡ b �
 unfolding number
 one-byte s at v b h e = simp (add-zero, zero-add) (e ∙ h)
 
-pub four-bytes : (s : List ℕ) (at a b c d : ℕ) → a ≡ getD s at 0 → b ≡ getD s (at + 1) 0 → c ≡ getD s (at + 2) 0 → d ≡ getD s (at + 3) 0
-    → ((a * 256 + b) * 256 + c) * 256 + d ≡ number 4 s at
-unfolding number
-four-bytes s at a b c d h₀ h₁ h₂ h₃ = simp (h₀, h₁, h₂, h₃, add-zero, zero-add)
-
 -- 2. A byte below a bound
 
-pub is-listed : (node bound v next : ℕ) (z : Number) → z ≡ Is v next → v < bound → Is v next ≡ numberAfter (cursorOf z) (listed node bound (valueOf z))
-unfolding countedAfter counted cursorOf valueOf listed
-is-listed node bound v next z d h = rw d (simp (lt-ltb v bound h, countedAfter, counted, listed))
+-- what follows the byte
+listed : (node bound value : ℕ) → Parser ℕ
+listed node bound v = λ at. elim (ltb v bound) [ true ↦ ok v at | false ↦ refused 2 node 0 ]
 
-pub not-listed : (node bound v next : ℕ) (z : Number) → z ≡ Is v next → bound ≤ v → Not (refusal 2 node 0) ≡ numberAfter (cursorOf z) (listed node bound (valueOf z))
-unfolding countedAfter counted cursorOf valueOf listed
-not-listed node bound v next z d h = rw d (simp (le-ltb v bound h, countedAfter, counted, listed))
+-- the byte's own answer z decides
+below-of : (s : List ℕ) (node end bound at : ℕ) (r₀ : Read) (z r : Number) → r₀ ≡ At at → z ≡ numberAfter (At at) (unsigned s node end 1) → r ≡ numberAfter (cursorOf z) (listed node bound (valueOf z)) → r ≡ numberAfter r₀ (byteBelow s node end bound)
+unfolding byteBelow listed _>>=_
+below-of s node end bound at r₀ z r d e k = rw d (over-value-to ℕ (λ v. v) (unsigned s node end 1) (listed node bound) (At at) z r e k)
 
-pub none-listed : (node bound : ℕ) (q : Refusal) (z : Number) → z ≡ Not q → Not q ≡ numberAfter (cursorOf z) (listed node bound (valueOf z))
+pub is-listed : (s : List ℕ) (node end bound at v next : ℕ) (r₀ : Read) (z : Number) → r₀ ≡ At at → z ≡ numberAfter (At at) (unsigned s node end 1) → z ≡ Is v next → v < bound → Is v next ≡ numberAfter r₀ (byteBelow s node end bound)
+unfolding countedAfter counted cursorOf valueOf listed
+is-listed s node end bound at v next r₀ z d₀ e d h = below-of s node end bound at r₀ z (Is v next) d₀ e (rw d (simp (lt-ltb v bound h, countedAfter, counted, listed)))
+
+pub not-listed : (s : List ℕ) (node end bound at v next : ℕ) (r₀ : Read) (z : Number) → r₀ ≡ At at → z ≡ numberAfter (At at) (unsigned s node end 1) → z ≡ Is v next → bound ≤ v → Not (refusal 2 node 0) ≡ numberAfter r₀ (byteBelow s node end bound)
+unfolding countedAfter counted cursorOf valueOf listed
+not-listed s node end bound at v next r₀ z d₀ e d h = below-of s node end bound at r₀ z (Not (refusal 2 node 0)) d₀ e (rw d (simp (le-ltb v bound h, countedAfter, counted, listed)))
+
+pub no-byte : (s : List ℕ) (node end bound at : ℕ) (q : Refusal) (r₀ : Read) (z : Number) → r₀ ≡ At at → z ≡ numberAfter (At at) (unsigned s node end 1) → z ≡ Not q → Not q ≡ numberAfter r₀ (byteBelow s node end bound)
 unfolding countedAfter cursorOf
-none-listed node bound q z d = rw d
-
-pub a-small : (s : List ℕ) (node end bound : ℕ) (r₀ : Read) (z r : Number) → z ≡ numberAfter r₀ (unsigned s node end 1) → r ≡ numberAfter (cursorOf z) (listed node bound (valueOf z)) → r ≡ numberAfter r₀ (small s node end bound)
-unfolding small listed
-a-small s node end bound r₀ z r e k = over-value-to ℕ (λ v. v) (unsigned s node end 1) (listed node bound) r₀ z r e k
+no-byte s node end bound at q r₀ z d₀ e d = below-of s node end bound at r₀ z (Not q) d₀ e (rw d)
 
 -- 3. Marks
 
-pub marks-on : (s : List ℕ) (node end n : ℕ) (r₀ r₁ r : Read) → 0 < n → r₁ ≡ after r₀ (small s node end 2) → r ≡ after r₁ (marks s node end (n - 1)) → r ≡ after r₀ (marks s node end n)
-unfolding marks
-marks-on s node end zero r₀ r₁ r h e k = never (omega arith)
+pub marks-on : (s : List ℕ) (node end n : ℕ) (r₀ r₁ r : Read) → 0 < n → r₁ ≡ after r₀ (byteBelow s node end 2) → r ≡ after r₁ (markBytes s node end (n - 1)) → r ≡ after r₀ (markBytes s node end n)
+unfolding markBytes
+marks-on s node end zero r₀ r₁ r h e k = impossible (omega arith)
 marks-on s node end (suc n) r₀ r₁ r h e k =
-    let k' : r ≡ after r₁ (marks s node end n) = rw sub-one at k in
-    over 0 (List ℕ) (small s node end 2) _ r₀ r₁ r e (λ m. last (List ℕ) (marks s node end n) (λ ms. m ∷ ms) r₁ r k')
+    let k' : r ≡ after r₁ (markBytes s node end n) = rw sub-one at k in
+    over 0 (List ℕ) (byteBelow s node end 2) _ r₀ r₁ r e (λ m. last (List ℕ) (markBytes s node end n) (λ ms. m ∷ ms) r₁ r k')
 
-pub marks-none : (s : List ℕ) (node end n : ℕ) (r : Read) → n ≤ 0 → r ≡ after r (marks s node end n)
-unfolding marks
+pub marks-none : (s : List ℕ) (node end n : ℕ) (r : Read) → n ≤ 0 → r ≡ after r (markBytes s node end n)
+unfolding markBytes
 marks-none s node end zero r h = gave [] r
-marks-none s node end (suc n) r h = never (omega arith)
+marks-none s node end (suc n) r h = impossible (omega arith)
 
-marks-length : (s : List ℕ) (node end n at : ℕ) (ms : List ℕ) (m : ℕ) → marks s node end n at ≡ ok ms m → length ms ≡ n
-unfolding marks _>>=_ give
+marks-length : (s : List ℕ) (node end n at : ℕ) (ms : List ℕ) (m : ℕ) → markBytes s node end n at ≡ ok ms m → length ms ≡ n
+unfolding markBytes _>>=_ give
 marks-length s node end zero at ms m e = let h : [] ≡ ms = cc in ap length (sym h)
 marks-length s node end (suc n) at ms m e =
-    let h = bind-ok (small s node end 2 at) _ e in
-    let k = bind-ok (marks s node end n (h .1)) _ (h .3) in
+    let h = bind-ok (byteBelow s node end 2 at) _ e in
+    let k = bind-ok (markBytes s node end n (h .1)) _ (h .3) in
     let j : h .0 ∷ k .0 ≡ ms = cc (k .3) in
     ap length (sym j) ∙ ap suc (marks-length s node end n (h .1) (k .0) (k .1) (k .2))
 
@@ -109,7 +109,7 @@ pub no-width : (byte : ℕ) → 16 ≤ byte → 0 ≡ getD constWidths byte 0
 unfolding constWidths
 no-width byte h = sym (List·getD-eq-default constWidths 0 h)
 
-pub is-mark : (s : List ℕ) (node end byte : ℕ) (r₀ r : Read) → byte ≡ 15 → r ≡ after r₀ (small s node end 2) → r ≡ after r₀ (payload s node end byte)
+pub is-mark : (s : List ℕ) (node end byte : ℕ) (r₀ r : Read) → byte ≡ 15 → r ≡ after r₀ (byteBelow s node end 2) → r ≡ after r₀ (payload s node end byte)
 unfolding payload
 is-mark s node end byte r₀ r h e = simp (eq-eqb byte 15 h, payload) e
 
@@ -117,12 +117,12 @@ pub is-value : (s : List ℕ) (node end byte w : ℕ) (r₀ r : Read) → (byte 
 unfolding payload
 is-value s node end byte w r₀ r h d e = simp (ne-eqb byte 15 h, payload) (rw d at e)
 
-pub a-const : (s : List ℕ) (node end : ℕ) (r₀ x r : Read) (z : Number) (v : ℕ) → z ≡ numberAfter r₀ (small s node end 16) → x ≡ cursorOf z → v ≡ valueOf z → r ≡ after x (payload s node end v) → r ≡ after r₀ (asConst s node end)
+pub a-const : (s : List ℕ) (node end : ℕ) (r₀ x r : Read) (z : Number) (v : ℕ) → z ≡ numberAfter r₀ (byteBelow s node end 16) → x ≡ cursorOf z → v ≡ valueOf z → r ≡ after x (payload s node end v) → r ≡ after r₀ (asConst s node end)
 unfolding asConst
-a-const s node end r₀ x r z v e d₁ d₂ k = over-value Expr (small s node end 16) _ r₀ r z e (last Expr _ _ _ _ (rw (d₁, d₂) at k))
+a-const s node end r₀ x r z v e d₁ d₂ k = over-value Expr (byteBelow s node end 16) _ r₀ r z e (last Expr _ _ _ _ (rw (d₁, d₂) at k))
 
 -- an InitDefault
-pub an-init : (s : List ℕ) (node end : ℕ) (r₀ x₁ x₂ r : Read) → x₁ ≡ after r₀ (unsigned s node end 4) → x₂ ≡ after x₁ (small s node end 23) → r ≡ after x₂ (unsigned s node end 4) → r ≡ after r₀ (asInitDefault s node end)
+pub an-init : (s : List ℕ) (node end : ℕ) (r₀ x₁ x₂ r : Read) → x₁ ≡ after r₀ (unsigned s node end 4) → x₂ ≡ after x₁ (byteBelow s node end 23) → r ≡ after x₂ (unsigned s node end 4) → r ≡ after r₀ (asInitDefault s node end)
 unfolding asInitDefault
 an-init s node end r₀ x₁ x₂ r e₁ e₂ e₃ = over 0 Stmt _ _ _ _ _ e₁ (λ _. over 0 Stmt _ _ _ _ _ e₂ (λ _. last Stmt _ _ _ _ e₃))
 
@@ -134,15 +134,15 @@ unfolding verdict counted bind give numberOf
 callee-last-at f n l b k (ok ms m) y r h e d = d ∙ ap (λ (y : Read). numberOf y k) e ∙ ap (λ (v : ℕ). Is v m) (sym (h ms m refl))
 callee-last-at f n l b k (refused m p x) y r h e d = d ∙ ap (λ (y : Read). numberOf y k) e
 
-callee-last : (s : List ℕ) (node end f n l b k : ℕ) (r₀ y : Read) (r : Number) → y ≡ after r₀ (marks s node end k) → r ≡ numberOf y k
-    → r ≡ countedAfter paramsOf r₀ (marks s node end k >>= λ ms. give (record { function = f; name = n; line = l; flags = b; params = ms }))
+callee-last : (s : List ℕ) (node end f n l b k : ℕ) (r₀ y : Read) (r : Number) → y ≡ after r₀ (markBytes s node end k) → r ≡ numberOf y k
+    → r ≡ countedAfter paramsOf r₀ (markBytes s node end k >>= λ ms. give (record { function = f; name = n; line = l; flags = b; params = ms }))
 unfolding after countedAfter _>>=_ numberOf
-callee-last s node end f n l b k (At at) y r e d = callee-last-at f n l b k (marks s node end k at) y r (λ ms m h. marks-length s node end k at ms m h) e d
+callee-last s node end f n l b k (At at) y r e d = callee-last-at f n l b k (markBytes s node end k at) y r (λ ms m h. marks-length s node end k at ms m h) e d
 callee-last s node end f n l b k (Refused q) y r e d = d ∙ ap (λ (y : Read). numberOf y k) e
 
 pub a-callee : (s : List ℕ) (node end : ℕ) (r₀ x₁ x₂ x₃ x₄ : Read) (z : Number) (k : ℕ) (x₅ x₆ : Read) (r : Number)
-    → x₁ ≡ after r₀ (unsigned s node end 4) → x₂ ≡ after x₁ (unsigned s node end 4) → x₃ ≡ after x₂ (unsigned s node end 2) → x₄ ≡ after x₃ (small s node end 16)
-    → z ≡ numberAfter x₄ (unsigned s node end 1) → k ≡ valueOf z → x₅ ≡ cursorOf z → x₆ ≡ after x₅ (marks s node end k) → r ≡ numberOf x₆ k → r ≡ countedAfter paramsOf r₀ (callee s node end)
+    → x₁ ≡ after r₀ (unsigned s node end 4) → x₂ ≡ after x₁ (unsigned s node end 4) → x₃ ≡ after x₂ (unsigned s node end 2) → x₄ ≡ after x₃ (byteBelow s node end 16)
+    → z ≡ numberAfter x₄ (unsigned s node end 1) → k ≡ valueOf z → x₅ ≡ cursorOf z → x₆ ≡ after x₅ (markBytes s node end k) → r ≡ numberOf x₆ k → r ≡ countedAfter paramsOf r₀ (callee s node end)
 unfolding callee
 a-callee s node end r₀ x₁ x₂ x₃ x₄ z k x₅ x₆ r e₁ e₂ e₃ e₄ e₅ d₁ d₂ e₆ e₇ =
     over-to 0 Callee paramsOf _ _ r₀ x₁ r e₁ (λ f. over-to 0 Callee paramsOf _ _ x₁ x₂ r e₂ (λ n. over-to 0 Callee paramsOf _ _ x₂ x₃ r e₃ (λ l.
@@ -288,7 +288,7 @@ arguments-of : (s : List ℕ) (child : ℕ → Parser Expr) (node end params : �
     → z ≡ countedAfter length r₀ (run s end child) → r ≡ after (cursorOf z) (closing node end params (valueOf z)) → r ≡ after r₀ (arguments s child node end params)
 unfolding arguments closing ended _>>=_
 arguments-of s child node end params r₀ r z e k =
-    over-counted length (run s end child) (closing node end params) _ r₀ r z (λ xs n. counted-closing node params xs exprs n (eqb n end)) e k
+    over-counted length (run s end child) (closing node end params) _ r₀ r z (λ xs n. counted-closing node params xs exprsOf n (eqb n end)) e k
 
 pub a-call : (s : List ℕ) (child : ℕ → Parser Expr) (node end : ℕ) (r₀ : Read) (z₁ : Number) (x₁ : Read) (z₂ : Number) (x₂ : Read) (v₁ v₂ : ℕ) (r : Read)
     → z₁ ≡ countedAfter paramsOf r₀ (callee s node end) → x₁ ≡ cursorOf z₁ → z₂ ≡ countedAfter length x₁ (run s end child) → x₂ ≡ cursorOf z₂ → v₁ ≡ valueOf z₁ → v₂ ≡ valueOf z₂

@@ -11,9 +11,9 @@ use borrow.Author.Tests.{leb-true, ltb-true, ltb-false, eqb-true, lt-ltb, le-ltb
 use Rattle.definitions.specs.Answer.{Answer, ok, refused, bind}
 use Rattle.definitions.specs.Bytes.{number}
 use Rattle.definitions.specs.Tag.{constWidths}
-use Rattle.definitions.specs.Tree.{Callee, Expr, Exprs, Stmt, exprs}
-use Rattle.definitions.specs.Read.{Parser, _>>=_, give, unsigned, small, marks, payload, callee, arguments, room, span, items, filling, run, ended, head, node, exprBody, stmtBody, parseExpr, parseStmt}
-pub use Rattle.laws.proofs.Inversion.{never, bind-ok, when-ok, give-ok, unsigned-is, unsigned-ok, span-is}
+use Rattle.definitions.specs.Tree.{Callee, Expr, Exprs, Stmt, exprsOf}
+use Rattle.definitions.specs.Read.{Parser, _>>=_, give, unsigned, byteBelow, markBytes, payload, callee, arguments, room, span, items, filling, run, ended, head, node, exprBody, stmtBody, parseExpr, parseStmt}
+pub use Rattle.laws.proofs.Inversion.{impossible, refused-not-ok, bind-ok, when-ok, give-ok, unsigned-is, unsigned-ok, span-is}
 use Rattle.ir.specs.Places.{endOf, ExprAt, StmtAt, RunAt, ByteAt, CallAt}
 
 -- 1. Fields, each with what follows it
@@ -22,21 +22,21 @@ pub one-byte : (s : List ℕ) (at : ℕ) → number 1 s at ≡ getD s at 0
 unfolding number
 one-byte s at = simp (zero-mul, zero-add, add-zero)
 
-small-is : (s : List ℕ) (nd end bound at : ℕ) {v n : ℕ} → small s nd end bound at ≡ ok v n → (at + 1 ≤ end) × (getD s at 0 < bound) × (getD s at 0 ≡ v) × (at + 1 ≡ n)
-unfolding small
-small-is s nd end bound at {v} e =
-    let g = unsigned-ok s nd end 1 _ at e in
+byte-below-is : (s : List ℕ) (nd end bound at : ℕ) {v n : ℕ} → byteBelow s nd end bound at ≡ ok v n → (at + 1 ≤ end) × (getD s at 0 < bound) × (getD s at 0 ≡ v) × (at + 1 ≡ n)
+unfolding byteBelow _>>=_
+byte-below-is s nd end bound at {v} e =
+    let g = unsigned-ok s nd end 1 (λ v at. elim (ltb v bound) [ true ↦ ok v at | false ↦ refused 2 nd 0 ]) at e in
     let w = when-ok (ltb (number 1 s at) bound) _ 2 nd 0 (g .1) in
     let l : number 1 s at < bound = ltb-true (number 1 s at) bound (w .0) in
     let q : number 1 s at ≡ v = cc (w .1) in
     (g .0, rw (one-byte s at) at l, sym (one-byte s at) ∙ q, cc (w .1))
 
 -- a byte below a bound
-pub small-ok : {B : Type 0} (s : List ℕ) (nd end bound : ℕ) (f : ℕ → Parser B) (at : ℕ) {b : B} {n : ℕ} → (small s nd end bound >>= f) at ≡ ok b n → ByteAt s end bound at × (f (getD s at 0) (at + 1) ≡ ok b n)
+pub byte-below-ok : {B : Type 0} (s : List ℕ) (nd end bound : ℕ) (f : ℕ → Parser B) (at : ℕ) {b : B} {n : ℕ} → (byteBelow s nd end bound >>= f) at ≡ ok b n → ByteAt s end bound at × (f (getD s at 0) (at + 1) ≡ ok b n)
 unfolding _>>=_
-small-ok s nd end bound f at e =
-    let h = bind-ok (small s nd end bound at) f e in
-    let i = small-is s nd end bound at (h .2) in
+byte-below-ok s nd end bound f at e =
+    let h = bind-ok (byteBelow s nd end bound at) f e in
+    let i = byte-below-is s nd end bound at (h .2) in
     (record { fits = i .0; small = i .1 }, rw (← (i .2), ← (i .3)) at (h .3))
 
 -- n marks: as many as bytes, and the same
@@ -53,22 +53,22 @@ marks-more s end n at ms next m h r = record { long = omega (arith, r .long); ne
     go zero l = h ∙ ap (λ (k : ℕ). getD s k 0) (sym (add-zero at))
     go (suc i) l = let k : at + 1 + i ≡ at + suc i = omega arith in r .same i (omega arith) ∙ ap (λ (k : ℕ). getD s k 0) k
 
-marks-is : (s : List ℕ) (nd end n at : ℕ) {ms : List ℕ} {next : ℕ} → at ≤ end → marks s nd end n at ≡ ok ms next → MarksAt s end n at ms next
-unfolding marks _>>=_
+marks-is : (s : List ℕ) (nd end n at : ℕ) {ms : List ℕ} {next : ℕ} → at ≤ end → markBytes s nd end n at ≡ ok ms next → MarksAt s end n at ms next
+unfolding markBytes _>>=_
 marks-is s nd end zero at {ms} {next} l e =
     let g = give-ok [] at e in
     rw (g .0) (record { long = refl; next-is = omega (arith, g .1); fits = omega arith; same = λ i h. absurd (omega arith) })
 marks-is s nd end (suc n) at {ms} {next} l e =
-    let v = small-ok s nd end 2 _ at e in
-    let h = bind-ok (marks s nd end n (at + 1)) _ (v .1) in
+    let v = byte-below-ok s nd end 2 _ at e in
+    let h = bind-ok (markBytes s nd end n (at + 1)) _ (v .1) in
     let g = give-ok (getD s at 0 ∷ h .0) (h .1) (h .3) in
     rw (g .0) (marks-more s end n at (h .0) next (getD s at 0) refl (rw (g .1) at (marks-is s nd end n (at + 1) (v .0 .fits) (h .2))))
 
-pub marks-ok : {B : Type 0} (s : List ℕ) (nd end k : ℕ) (f : List ℕ → Parser B) (at : ℕ) {b : B} {n : ℕ} → at ≤ end → (marks s nd end k >>= f) at ≡ ok b n
+pub marks-ok : {B : Type 0} (s : List ℕ) (nd end k : ℕ) (f : List ℕ → Parser B) (at : ℕ) {b : B} {n : ℕ} → at ≤ end → (markBytes s nd end k >>= f) at ≡ ok b n
     → (ms : List ℕ) × MarksAt s end k at ms (at + k) × (f ms (at + k) ≡ ok b n)
 unfolding _>>=_
 marks-ok s nd end k f at l e =
-    let h = bind-ok (marks s nd end k at) f e in
+    let h = bind-ok (markBytes s nd end k at) f e in
     let m = marks-is s nd end k at l (h .2) in
     (h .0, rw (m .next-is) at m, rw (m .next-is) at (h .3))
 
@@ -82,11 +82,11 @@ pub payload-ok : {B : Type 0} (s : List ℕ) (nd end byte : ℕ) (f : ℕ → Pa
 unfolding payload
 payload-ok {B} s nd end byte f at {b} {n} e = go (eqb byte 15) refl e
   where
-    go : (t : Bool) → t ≡ eqb byte 15 → ((elim t as (λ _. Parser ℕ) [ true ↦ small s nd end 2 | false ↦ unsigned s nd end (getD constWidths byte 0) ]) >>= f) at ≡ ok b n
+    go : (t : Bool) → t ≡ eqb byte 15 → ((elim t as (λ _. Parser ℕ) [ true ↦ byteBelow s nd end 2 | false ↦ unsigned s nd end (getD constWidths byte 0) ]) >>= f) at ≡ ok b n
         → (at + getD constWidths byte 0 ≤ end) × (f (number (getD constWidths byte 0) s at) (at + getD constWidths byte 0) ≡ ok b n)
     go true h e =
         let w : getD constWidths byte 0 ≡ 1 = bool-width byte (eqb-true byte 15 (sym h)) in
-        let i = small-ok s nd end 2 f at e in
+        let i = byte-below-ok s nd end 2 f at e in
         (rw w (i .0 .fits), rw (w, one-byte s at) (i .1))
     go false h e = unsigned-ok s nd end (getD constWidths byte 0) f at e
 
@@ -102,7 +102,7 @@ span-ok s end f at e =
 
 pub items-stop : {A : Type 0} (p : Parser A) (fuel end at : ℕ) {xs : List A} {n : ℕ} → items p fuel end at ≡ ok xs n → end ≡ n
 unfolding items
-items-stop p zero end at e = never e
+items-stop p zero end at e = refused-not-ok e
 items-stop {A} p (suc fuel) end at {xs} {n} e = go (ltb at end) (λ m ys k h. items-stop p fuel end m {xs = ys} {n = k} h) e
   where
     go : (b : Bool) → ((m : ℕ) (ys : List A) (k : ℕ) → items p fuel end m ≡ ok ys k → end ≡ k)
@@ -162,14 +162,14 @@ node-ok s holder body at {a} e =
 
 pub expr-ok : (depth : ℕ) (s : List ℕ) (holder at : ℕ) {a : Expr} {n : ℕ} → parseExpr depth s holder at ≡ ok a n → (0 < depth) × NodeAt s holder (exprBody s (parseExpr (depth - 1) s)) at a n
 unfolding parseExpr
-expr-ok zero s holder at e = never e
+expr-ok zero s holder at e = refused-not-ok e
 expr-ok (suc d) s holder at e =
     let p : suc d - 1 ≡ d = omega arith in
     (omega arith, rw p (node-ok s holder (exprBody s (parseExpr d s)) at e))
 
 pub stmt-ok : (depth : ℕ) (s : List ℕ) (holder at : ℕ) {a : Stmt} {n : ℕ} → parseStmt depth s holder at ≡ ok a n → (0 < depth) × NodeAt s holder (stmtBody s (parseExpr (depth - 1) s) (parseStmt (depth - 1) s)) at a n
 unfolding parseStmt
-stmt-ok zero s holder at e = never e
+stmt-ok zero s holder at e = refused-not-ok e
 stmt-ok (suc d) s holder at e =
     let p : suc d - 1 ≡ d = omega arith in
     (omega arith, rw p (node-ok s holder (stmtBody s (parseExpr d s) (parseStmt d s)) at e))
@@ -302,13 +302,13 @@ callee-is s nd end p e =
     let f = unsigned-ok s nd end 4 _ p e in
     let n = unsigned-ok s nd end 4 _ (p + 4) (f .1) in
     let l = unsigned-ok s nd end 2 _ (p + 8) (rw p8 at (n .1)) in
-    let b = small-ok s nd end 16 _ (p + 10) (rw p10 at (l .1)) in
+    let b = byte-below-ok s nd end 16 _ (p + 10) (rw p10 at (l .1)) in
     let k = unsigned-ok s nd end 1 _ (p + 11) (rw p11 at (b .1)) in
     let m = marks-ok s nd end (number 1 s (p + 11)) _ (p + 12) (omega (arith, k .0)) (rw p12 at (k .1)) in
     callee-given s end p (number 1 s (p + 11)) (m .0) (one-byte s (p + 11)) (b .0) (m .1) (m .2)
 
 arguments-is : (s : List ℕ) (child : ℕ → Parser Expr) (nd end params p : ℕ) {es : Exprs} {n : ℕ} → arguments s child nd end params p ≡ ok es n
-    → (xs : List Expr) × RunAt s end child p xs end × (length xs ≤ params) × (es ≡ exprs xs) × (n ≡ end)
+    → (xs : List Expr) × RunAt s end child p xs end × (length xs ≤ params) × (es ≡ exprsOf xs) × (n ≡ end)
 unfolding arguments _>>=_
 arguments-is s child nd end params p e =
     let r = run-ok s end child _ p e in
@@ -322,7 +322,7 @@ arguments-is s child nd end params p e =
 -- a call and the tree that is made of it
 pub call-ok : {B : Type 0} (d : ℕ) (s : List ℕ) (nd end : ℕ) (k : Callee → Exprs → B) (p : ℕ) {b : B} {n : ℕ}
     → (callee s nd end >>= λ c. (arguments s (parseExpr d s) nd end (length (c .params)) >>= λ xs. give (k c xs))) p ≡ ok b n
-    → (c : Callee) × (args : List Expr) × (list : ℕ) × CallAt d s end p c args list × (b ≡ k c (exprs args)) × (n ≡ end)
+    → (c : Callee) × (args : List Expr) × (list : ℕ) × CallAt d s end p c args list × (b ≡ k c (exprsOf args)) × (n ≡ end)
 unfolding _>>=_
 call-ok d s nd end k p e =
     let h = bind-ok (callee s nd end p) _ e in

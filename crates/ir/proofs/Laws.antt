@@ -6,7 +6,8 @@ use mathlib.Core.List.{List, [], _∷_}
 use native.Mathlib.Omega.{arith}
 use lib.ListN.{length}
 use Rattle.definitions.specs.Answer.{Answer, ok, refused, bind}
-use Rattle.definitions.specs.Read.{Parser, _>>=_, give, refuse, pick}
+use Rattle.definitions.specs.Read.{Parser, _>>=_, give, unknownKind, pick}
+pub use Rattle.laws.proofs.Inversion.{impossible}
 use Rattle.ir.specs.Verdict.{verdict, after, counted, countedAfter, numberAfter, headed, cursorOf, valueOf}
 use Rattle.ir.specs.declared.Refusal.{Refusal}
 use Rattle.ir.specs.declared.Read.{Read}
@@ -70,16 +71,16 @@ pub kept-number : (A : Type 0) (f : A → ℕ) (p : Parser A) (r₀ : Read) (q :
 unfolding countedAfter
 kept-number A f p r₀ q e = sym (ap (λ (z : Read). countedAfter f z p) e)
 
--- a refusal is made
-pub refused-at : (n p x at : ℕ) (r₀ : Read) → r₀ ≡ At at → Refused (refusal n p x) ≡ after r₀ (refuse {A = ℕ} n p x)
-unfolding after refuse verdict
-refused-at n p x at r₀ d = rw d
+-- an unknown kind is refused
+pub unknown-at : (node at : ℕ) (r₀ : Read) → r₀ ≡ At at → Refused (refusal 2 node 0) ≡ after r₀ (unknownKind {A = ℕ} node)
+unfolding after unknownKind verdict
+unknown-at node at r₀ d = rw d
 
--- and is the same for every type
-pub refuse-any : (A : Type 0) (n p x : ℕ) (r₀ : Read) → after r₀ (refuse {A = ℕ} n p x) ≡ after r₀ (refuse {A = A} n p x)
-unfolding after refuse verdict
-refuse-any A n p x (At at) = refl
-refuse-any A n p x (Refused q) = refl
+-- alike for every type
+pub unknown-any : (A : Type 0) (node : ℕ) (r₀ : Read) → after r₀ (unknownKind {A = ℕ} node) ≡ after r₀ (unknownKind {A = A} node)
+unfolding after unknownKind verdict
+unknown-any A node (At at) = refl
+unknown-any A node (Refused q) = refl
 
 -- 2. A step with a number, which decides what follows
 
@@ -136,16 +137,10 @@ strip f p (Refused q) r z e k = k ∙ ap cursorOf e
 
 -- 3. Answers, taken apart
 
-pub never : {C : Type 0} → _≡_ {A = ℕ} 0 1 → C
-never z = absurd (none z)
-  where
-    none : _≡_ {A = ℕ} 0 1 → ⊥
-    none z = omega arith
-
 pub at-ok : (A : Type 0) (x : Answer A) (n : ℕ) (C : Type 0) (r : Read) → r ≡ At n → r ≡ verdict x → ((a : A) → x ≡ ok a n → C) → C
 unfolding verdict
 at-ok A (ok a m) n C r d e k = k a (cc)
-at-ok A (refused m p x) n C r d e k = never (cc)
+at-ok A (refused m p x) n C r d e k = impossible (cc)
 
 pub is-ok : (x : Answer ℕ) (v n : ℕ) (r : Number) → r ≡ Is v n → r ≡ counted (λ v. v) x → x ≡ ok v n
 unfolding counted
@@ -178,10 +173,10 @@ not-of (refused n p x) q r d e = cc
 
 -- 4. Kinds
 
-past-all : (A : Type 0) (ps : List (Parser A)) (at k : ℕ) → length ps ≤ k → pick ps at k ≡ refuse 2 at 0
+past-all : (A : Type 0) (ps : List (Parser A)) (at k : ℕ) → length ps ≤ k → pick ps at k ≡ unknownKind at
 unfolding pick
 past-all A [] at k h = refl
-past-all A (p ∷ ps) at zero h = never (omega arith)
+past-all A (p ∷ ps) at zero h = impossible (omega arith)
 past-all A (p ∷ ps) at (suc k) h = past-all A ps at k (omega arith)
 
 -- none of the n numbers after b, as a match on a number has it after its arms for them
@@ -195,17 +190,17 @@ past b (suc n) kind h l = let i : b + n < kind = past b n kind (h .0) l in let z
 
 -- a kind that the list lacks: 0, and those past its end
 pub unpicked-0 : (A : Type 0) (ps : List (Parser A)) (at kind : ℕ) (r₀ r : Read) → kind ≡ 0
-    → r ≡ after r₀ (refuse {A = ℕ} 2 at 0) → r ≡ after r₀ (pick (refuse 2 at 0 ∷ ps) at kind)
+    → r ≡ after r₀ (unknownKind {A = ℕ} at) → r ≡ after r₀ (pick (unknownKind at ∷ ps) at kind)
 unfolding pick
-unpicked-0 A ps at kind r₀ r h e = rw h (e ∙ refuse-any A 2 at 0 r₀)
+unpicked-0 A ps at kind r₀ r h e = rw h (e ∙ unknown-any A at r₀)
 
 pub unpicked-past : (A : Type 0) (ps : List (Parser A)) (at kind : ℕ) (r₀ r : Read) → length ps ≤ kind
-    → r ≡ after r₀ (refuse {A = ℕ} 2 at 0) → r ≡ after r₀ (pick ps at kind)
-unpicked-past A ps at kind r₀ r h e = e ∙ refuse-any A 2 at 0 r₀ ∙ ap (after r₀) (sym (past-all A ps at kind h))
+    → r ≡ after r₀ (unknownKind {A = ℕ} at) → r ≡ after r₀ (pick ps at kind)
+unpicked-past A ps at kind r₀ r h e = e ∙ unknown-any A at r₀ ∙ ap (after r₀) (sym (past-all A ps at kind h))
 
 pub unpicked : (A : Type 0) (ps : List (Parser A)) (at kind : ℕ) (r₀ r : Read) → Nones 0 (length ps) kind
-    → r ≡ after r₀ (refuse {A = ℕ} 2 at 0) → r ≡ after r₀ (pick (refuse 2 at 0 ∷ ps) at kind)
+    → r ≡ after r₀ (unknownKind {A = ℕ} at) → r ≡ after r₀ (pick (unknownKind at ∷ ps) at kind)
 unpicked A ps at zero r₀ r h e = unpicked-0 A ps at 0 r₀ r refl e
 unpicked A ps at (suc k) r₀ r h e =
     let l : 0 + length ps < suc k = past 0 (length ps) (suc k) h (omega arith) in
-    unpicked-past A (refuse 2 at 0 ∷ ps) at (suc k) r₀ r (omega arith) e
+    unpicked-past A (unknownKind at ∷ ps) at (suc k) r₀ r (omega arith) e

@@ -8,4 +8,4 @@ pub mod Inversion
 pub mod ExprPlaces
 pub mod StmtPlaces
 pub mod UnitPlaces
-mod ArgLaws
+pub mod ArgLaws

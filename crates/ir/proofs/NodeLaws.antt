@@ -26,7 +26,7 @@ use Rattle.ir.specs.declared.Class.{Class}
 use Rattle.ir.specs.declared.Class.the-variants.{Statement, Expression}
 use Rattle.ir.specs.declared.Item.{Item}
 use Rattle.ir.specs.declared.Item.the-variants.{Node, Arm}
-use Rattle.ir.proofs.Laws.{refusal, gave, over, last, never, at-ok, is-ok, of-ok, no-of, not-number}
+use Rattle.ir.proofs.Laws.{refusal, gave, over, last, impossible, at-ok, is-ok, of-ok, no-of, not-number}
 use Rattle.ir.proofs.Inversion.{expr-moves, stmt-moves}
 use Rattle.ir.proofs.StmtPlaces.{arm-moves}
 use Rattle.ir.proofs.FieldLaws.{ended-any}
@@ -83,10 +83,10 @@ a-node-of class d s end at kind stop next r₀ b r h e z d' e' k l =
 -- what the kind asks is read by the class
 pub a-statement : (class : Class) (d : ℕ) (s : List ℕ) (kind at end : ℕ) (r₀ r : Read) → tagOf class-type class ≡ 0 → r ≡ after r₀ (kindOf Statement d s kind at end) → r ≡ after r₀ (kindOf class d s kind at end)
 a-statement Statement d s kind at end r₀ r h e = e
-a-statement Expression d s kind at end r₀ r h e = never (cc)
+a-statement Expression d s kind at end r₀ r h e = impossible (cc)
 
 pub an-expression : (class : Class) (d : ℕ) (s : List ℕ) (kind at end : ℕ) (r₀ r : Read) → tagOf class-type class ≡ 1 → r ≡ after r₀ (kindOf Expression d s kind at end) → r ≡ after r₀ (kindOf class d s kind at end)
-an-expression Statement d s kind at end r₀ r h e = never (cc)
+an-expression Statement d s kind at end r₀ r h e = impossible (cc)
 an-expression Expression d s kind at end r₀ r h e = e
 
 -- 3. A run, with the number of its items
@@ -126,11 +126,11 @@ items-more : (A : Type 0) (p : Parser A) (fuel stop n : ℕ) (x : Answer A) (r :
     → counted length (bind x (itemsOf A p fuel stop)) ≡ plus 1 (counted length (items p fuel stop n))
 unfolding verdict bind
 items-more A p fuel stop n (ok v m) r d e = let h : m ≡ n = cc in one-more A v (items p fuel stop m) ∙ ap (λ (m : ℕ). plus 1 (counted length (items p fuel stop m))) h
-items-more A p fuel stop n (refused m q x) r d e = never (cc)
+items-more A p fuel stop n (refused m q x) r d e = impossible (cc)
 
 items-no : (A : Type 0) (f : A → Parser (List A)) (q : Refusal) (x : Answer A) (r : Read) → r ≡ Refused q → r ≡ verdict x → Not q ≡ counted length (bind x f)
 unfolding verdict counted bind
-items-no A f q (ok v n) r d e = never (cc)
+items-no A f q (ok v n) r d e = impossible (cc)
 items-no A f q (refused m p x) r d e = cc
 
 items-on : (A : Type 0) (p : Parser A) (fuel stop at : ℕ) → at < stop → items p (suc fuel) stop at ≡ bind (p at) (itemsOf A p fuel stop)
@@ -142,7 +142,7 @@ unfolding items counted
 items-end A p fuel stop at h = simp (le-ltb at stop h, items, counted)
 
 no-fuel : {C : Type 0} (stop next : ℕ) → stop ≤ next + 0 → next < stop → C
-no-fuel stop next h l = never (omega arith)
+no-fuel stop next h l = impossible (omega arith)
 
 more-of : (A : Type 0) (p : Parser A) (stop first next n count fuel : ℕ) (r : Read) → stop ≤ next + fuel → count ≤ next → next < stop → r ≡ At n → r ≡ after (At next) p → next < n
     → counted length (items p (suc (stop - first)) stop first) ≡ plus count (counted length (items p (suc fuel) stop next)) → Filling A p stop first n (count + 1)
@@ -189,7 +189,7 @@ pub a-node-item : (item : Item) (class : Class) (d : ℕ) (s : List ℕ) (end : 
 a-node-item item class d s end r₀ r h e = rw h e
 
 is-arm : (item : Item) → tagOf item-type item ≡ 1 → item ≡ Arm
-is-arm (Node class) h = never (cc)
+is-arm (Node class) h = impossible (cc)
 is-arm Arm h = refl
 
 pub an-arm : (item : Item) (d : ℕ) (s : List ℕ) (end : ℕ) (r₀ x r : Read) → tagOf item-type item ≡ 1 → x ≡ after r₀ (parseExpr d s end) → r ≡ after x (run s end (parseStmt d s)) → r ≡ after r₀ (itemOf item d s end)

@@ -6,11 +6,11 @@ use native.Mathlib.Omega.{arith}
 use lib.ListN.{getD}
 use Rattle.definitions.specs.Answer.{ok}
 use Rattle.definitions.specs.Bytes.{number}
-use Rattle.definitions.specs.Tree.{Expr, Stmt, Block, Default, expr, nest, while, branches, switch, initArray, break, continue, return, returnNothing, absent, present, block, exprs, branchesOf, casesOf}
-use Rattle.definitions.specs.Read.{_>>=_, give, refuse, pick, small, run, arm, blockIf, returnIf, asExpr, asNest, asWhile, asBranches, asSwitch, asInitArray, asInitDefault, asBreak, asContinue, asReturn, stmtKinds, stmtBody, parseExpr, parseStmt}
-use Rattle.ir.specs.Places.{endOf, RunAt, ByteAt, EvalAt, NestAt, WhileAt, ArmAt, DefaultAt, none, some, BranchesAt, SwitchAt, InitArrayAt, InitDefaultAt, BreakAt, ContinueAt, ReturnAt, nothing, value}
+use Rattle.definitions.specs.Tree.{Expr, Stmt, Block, Default, expr, block, while, branches, switch, initArray, break, continue, return, returnNothing, absent, present, blockOf, exprsOf, branchesOf, casesOf}
+use Rattle.definitions.specs.Read.{_>>=_, give, unknownKind, pick, byteBelow, run, arm, blockIf, returnIf, asExpr, asBlock, asWhile, asBranches, asSwitch, asInitArray, asInitDefault, asBreak, asContinue, asReturn, stmtKinds, stmtBody, parseExpr, parseStmt}
+use Rattle.ir.specs.Places.{endOf, RunAt, ByteAt, EvalAt, BlockAt, WhileAt, ArmAt, DefaultAt, none, some, BranchesAt, SwitchAt, InitArrayAt, InitDefaultAt, BreakAt, ContinueAt, ReturnAt, nothing, value}
 use Rattle.ir.proofs.Laws.{Nones, past}
-use Rattle.ir.proofs.Inversion.{never, bind-ok, stmt-ok, child-ok, unsigned-ok, small-ok, run-ok, give-ok}
+use Rattle.ir.proofs.Inversion.{refused-not-ok, bind-ok, stmt-ok, child-ok, unsigned-ok, byte-below-ok, run-ok, give-ok}
 use Rattle.ir.proofs.ExprPlaces.{no-kind-past}
 
 -- an item of Branches or Switch
@@ -19,7 +19,7 @@ unfolding arm
 arm-at d s holder at e =
     let a = child-ok d s holder _ at e in
     let l = run-ok s holder (parseStmt d s) _ (a .1) (a .3) in
-    let g = give-ok (a .0, block (l .0)) (endOf s (a .1)) (l .2) in
+    let g = give-ok (a .0, blockOf (l .0)) (endOf s (a .1)) (l .2) in
     record {
       body = l .0;
       second = a .1;
@@ -37,7 +37,7 @@ unfolding blockIf
 default-at d s stop at zero x e = let g = give-ok absent at e in rw (g .0) (none (g .1))
 default-at d s stop at (suc m) x e =
     let l = run-ok s stop (parseStmt d s) _ at e in
-    let g = give-ok (present (block (l .0))) (endOf s at) (l .2) in
+    let g = give-ok (present (blockOf (l .0))) (endOf s at) (l .2) in
     rw (g .0) (some (l .0) (rw (g .1) at (l .1)))
 
 -- a default, and the statement that is made of it
@@ -50,11 +50,11 @@ default-ok d s stop at m k e =
 
 -- a Switch from its default mark on, which stands at p + 4
 cases-ok : (d : ℕ) (s : List ℕ) (at stop p : ℕ) (k : List (Expr × Block) → Default → Stmt) {t : Stmt}
-    → (small s at stop 2 >>= λ m. (run s stop (arm s (parseExpr d s) (parseStmt d s)) >>= λ cs. (blockIf m (run s stop (parseStmt d s)) >>= λ x. give (k cs x)))) (p + 4) ≡ ok t stop
+    → (byteBelow s at stop 2 >>= λ m. (run s stop (arm s (parseExpr d s) (parseStmt d s)) >>= λ cs. (blockIf m (run s stop (parseStmt d s)) >>= λ x. give (k cs x)))) (p + 4) ≡ ok t stop
     → (cs : List (Expr × Block)) × (x : Default) × ByteAt s stop 2 (p + 4) × RunAt s stop (arm s (parseExpr d s) (parseStmt d s)) (p + 5) cs (endOf s (p + 5))
     × DefaultAt d s stop (endOf s (p + 5)) (getD s (p + 4) 0) x × (t ≡ k cs x)
 cases-ok d s at stop p k e =
-    let m = small-ok s at stop 2 _ (p + 4) e in
+    let m = byte-below-ok s at stop 2 _ (p + 4) e in
     let five : p + 4 + 1 ≡ p + 5 = omega arith in
     let l = run-ok s stop (arm s (parseExpr d s) (parseStmt d s)) _ (p + 5) (rw five at (m .1)) in
     let x = default-ok d s stop (endOf s (p + 5)) (getD s (p + 4) 0) (k (l .0)) (l .2) in
@@ -79,11 +79,11 @@ module _ (depth : ℕ) (s : List ℕ) (holder at : ℕ) (t : Stmt) (stop : ℕ) 
       let g = give-ok (expr at (a .0)) (a .1) (a .3) in
       record { value = a .0; one = rw (g .1) at (a .2); tree = g .0 }
 
-  pub nest-at : getD s (at + 4) 0 ≡ 2 → NestAt (depth - 1) s at stop t
-  unfolding stmtBody stmtKinds pick asNest
-  nest-at k =
+  pub block-at : getD s (at + 4) 0 ≡ 2 → BlockAt (depth - 1) s at stop t
+  unfolding stmtBody stmtKinds pick asBlock
+  block-at k =
       let l = run-ok s stop (parseStmt (depth - 1) s) _ (at + 5) (reads-as 2 k) in
-      let g = give-ok (nest at (block (l .0))) (endOf s (at + 5)) (l .2) in
+      let g = give-ok (block at (blockOf (l .0))) (endOf s (at + 5)) (l .2) in
       record { body = l .0; run = rw (g .1) at (l .1); tree = g .0 }
 
   pub while-at : getD s (at + 4) 0 ≡ 3 → WhileAt (depth - 1) s at stop t
@@ -91,14 +91,14 @@ module _ (depth : ℕ) (s : List ℕ) (holder at : ℕ) (t : Stmt) (stop : ℕ) 
   while-at k =
       let a = child-ok (depth - 1) s stop _ (at + 5) (reads-as 3 k) in
       let l = run-ok s stop (parseStmt (depth - 1) s) _ (a .1) (a .3) in
-      let g = give-ok (while at (a .0) (block (l .0))) (endOf s (a .1)) (l .2) in
+      let g = give-ok (while at (a .0) (blockOf (l .0))) (endOf s (a .1)) (l .2) in
       record { test = a .0; body = l .0; second = a .1; one = a .2; run = rw (g .1) at (l .1); tree = g .0 }
 
   pub branches-at : getD s (at + 4) 0 ≡ 4 → BranchesAt (depth - 1) s at stop t
   unfolding stmtBody stmtKinds pick asBranches
   branches-at k =
       let l = run-ok s stop (arm s (parseExpr (depth - 1) s) (parseStmt (depth - 1) s)) _ (at + 5) (reads-as 4 k) in
-      let m = small-ok s at stop 2 _ (endOf s (at + 5)) (l .2) in
+      let m = byte-below-ok s at stop 2 _ (endOf s (at + 5)) (l .2) in
       let d = default-ok (depth - 1) s stop (endOf s (at + 5) + 1) (getD s (endOf s (at + 5)) 0) (branches at (branchesOf (l .0))) (m .1) in
       record { arms = l .0; default = d .0; list = endOf s (at + 5); run = l .1; mark = m .0; last = d .1; tree = d .2 }
 
@@ -120,7 +120,7 @@ module _ (depth : ℕ) (s : List ℕ) (holder at : ℕ) (t : Stmt) (stop : ℕ) 
       let w = unsigned-ok s at stop 4 _ (at + 9) (rw nine at (v .1)) in
       let thirteen : at + 9 + 4 ≡ at + 13 = omega arith in
       let l = run-ok s stop (parseExpr (depth - 1) s) _ (at + 13) (rw thirteen at (w .1)) in
-      let g = give-ok (initArray at (number 4 s (at + 5)) (number 4 s (at + 9)) (exprs (l .0))) (endOf s (at + 13)) (l .2) in
+      let g = give-ok (initArray at (number 4 s (at + 5)) (number 4 s (at + 9)) (exprsOf (l .0))) (endOf s (at + 13)) (l .2) in
       record { elements = l .0; run = rw (g .1) at (l .1); tree = g .0 }
 
   pub init-default-at : getD s (at + 4) 0 ≡ 7 → InitDefaultAt s at stop t
@@ -128,7 +128,7 @@ module _ (depth : ℕ) (s : List ℕ) (holder at : ℕ) (t : Stmt) (stop : ℕ) 
   init-default-at k =
       let v = unsigned-ok s at stop 4 _ (at + 5) (reads-as 7 k) in
       let nine : at + 5 + 4 ≡ at + 9 = omega arith in
-      let b = small-ok s at stop 23 _ (at + 9) (rw nine at (v .1)) in
+      let b = byte-below-ok s at stop 23 _ (at + 9) (rw nine at (v .1)) in
       let ten : at + 9 + 1 ≡ at + 10 = omega arith in
       let w = unsigned-ok s at stop 4 _ (at + 10) (rw ten at (b .1)) in
       let g = give-ok _ _ (w .1) in
@@ -145,14 +145,14 @@ module _ (depth : ℕ) (s : List ℕ) (holder at : ℕ) (t : Stmt) (stop : ℕ) 
   pub returned-at : getD s (at + 4) 0 ≡ 10 → ByteAt s stop 2 (at + 5) × ReturnAt (depth - 1) s at stop (getD s (at + 5) 0) t
   unfolding stmtBody stmtKinds pick asReturn
   returned-at k =
-      let m = small-ok s at stop 2 _ (at + 5) (reads-as 10 k) in
+      let m = byte-below-ok s at stop 2 _ (at + 5) (reads-as 10 k) in
       let six : at + 5 + 1 ≡ at + 6 = omega arith in
       (m .0, return-at (depth - 1) s at stop (getD s (at + 5) 0) t (rw six at (m .1)))
 
   -- no node of another kind is read
   pub no-other : {X : Type 0} → Nones 0 10 (getD s (at + 4) 0) → X
-  unfolding stmtBody stmtKinds pick refuse
+  unfolding stmtBody stmtKinds pick unknownKind
   no-other h =
-      let z : getD s (at + 4) 0 ≡ 0 → ⊥ = λ k. never (reads-as 0 k) in
+      let z : getD s (at + 4) 0 ≡ 0 → ⊥ = λ k. refused-not-ok (reads-as 0 k) in
       let l : 0 + 10 < getD s (at + 4) 0 = past 0 10 (getD s (at + 4) 0) h (omega arith) in
       no-kind-past (stmtKinds s (parseExpr (depth - 1) s) (parseStmt (depth - 1) s) at stop) at (getD s (at + 4) 0) (at + 5) (omega arith) (reads-as (getD s (at + 4) 0) refl)

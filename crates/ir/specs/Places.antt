@@ -7,8 +7,8 @@ use lib.ListN.{length, getD}
 use Rattle.definitions.specs.Answer.{ok}
 use Rattle.definitions.specs.Bytes.{number}
 use Rattle.definitions.specs.Tag.{constWidths}
-use Rattle.definitions.specs.Tree.{Callee, Expr, Stmt, Block, Default, Script, nop, const, null, newInstance, construct, assign, field, element, conditional, dynCast, local, intrinsic, freeCall, staticCall, instanceCall, closureCall, expr, nest, while, branches, switch, initArray, initDefault, break, continue, return, returnNothing, absent, present, exprs, block, branchesOf, casesOf}
-use Rattle.definitions.specs.Read.{Parser, filling, arm, parseExpr, parseStmt}
+use Rattle.definitions.specs.Tree.{Callee, Expr, Stmt, Block, Default, Script, nop, const, null, newInstance, construct, assign, field, index, conditional, dynCast, local, intrinsic, freeCall, staticCall, instanceCall, closureCall, expr, block, while, branches, switch, initArray, initDefault, break, continue, return, returnNothing, absent, present, exprsOf, blockOf, branchesOf, casesOf}
+use Rattle.definitions.specs.Read.{Parser, filling, arm, parseExpr, parseStmt, unitLimit, depthLimit}
 
 -- where what begins with its length ends
 abbrev pub endOf : (s : List ℕ) (at : ℕ) → ℕ
@@ -79,7 +79,7 @@ pub record NewInstanceAt (s : List ℕ) (at stop : ℕ) (e : Expr) : Type 0 wher
 pub record ConstructAt (d : ℕ) (s : List ℕ) (at stop : ℕ) (e : Expr) : Type 0 where
   pub args : List Expr
   pub run : RunAt s stop (parseExpr d s) (at + 9) args stop
-  pub tree : e ≡ construct at (number 4 s (at + 5)) (exprs args)
+  pub tree : e ≡ construct at (number 4 s (at + 5)) (exprsOf args)
 
 pub record AssignAt (d : ℕ) (s : List ℕ) (at stop : ℕ) (e : Expr) : Type 0 where
   pub place : Expr
@@ -97,12 +97,12 @@ pub record FieldAt (d : ℕ) (s : List ℕ) (at stop : ℕ) (e : Expr) : Type 0 
 
 pub record IndexAt (d : ℕ) (s : List ℕ) (at stop : ℕ) (e : Expr) : Type 0 where
   pub array : Expr
-  pub index : Expr
+  pub subscript : Expr
   pub second : ℕ
   pub dynamic : ByteAt s stop 2 (at + 5)
   pub one : ExprAt d s stop (at + 10) array second
-  pub two : ExprAt d s stop second index stop
-  pub tree : e ≡ element at (getD s (at + 5) 0) (number 4 s (at + 6)) array index
+  pub two : ExprAt d s stop second subscript stop
+  pub tree : e ≡ index at (getD s (at + 5) 0) (number 4 s (at + 6)) array subscript
 
 pub record ConditionalAt (d : ℕ) (s : List ℕ) (at stop : ℕ) (e : Expr) : Type 0 where
   pub test : Expr
@@ -131,21 +131,21 @@ pub record IntrinsicAt (d : ℕ) (s : List ℕ) (at stop : ℕ) (e : Expr) : Typ
   pub code : ByteAt s stop 34 (at + 5)
   pub short : ByteAt s stop 2 (at + 6)
   pub run : RunAt s stop (parseExpr d s) (at + 12) args stop
-  pub tree : e ≡ intrinsic at (getD s (at + 5) 0) (getD s (at + 6) 0) (getD s (at + 7) 0) (number 4 s (at + 8)) (exprs args)
+  pub tree : e ≡ intrinsic at (getD s (at + 5) 0) (getD s (at + 6) 0) (getD s (at + 7) 0) (number 4 s (at + 8)) (exprsOf args)
 
 pub record FreeCallAt (d : ℕ) (s : List ℕ) (at stop : ℕ) (e : Expr) : Type 0 where
   pub callee : Callee
   pub args : List Expr
   pub list : ℕ
   pub call : CallAt d s stop (at + 5) callee args list
-  pub tree : e ≡ freeCall at callee (exprs args)
+  pub tree : e ≡ freeCall at callee (exprsOf args)
 
 pub record StaticCallAt (d : ℕ) (s : List ℕ) (at stop : ℕ) (e : Expr) : Type 0 where
   pub callee : Callee
   pub args : List Expr
   pub list : ℕ
   pub call : CallAt d s stop (at + 5) callee args list
-  pub tree : e ≡ staticCall at callee (exprs args)
+  pub tree : e ≡ staticCall at callee (exprsOf args)
 
 pub record InstanceCallAt (d : ℕ) (s : List ℕ) (at stop : ℕ) (e : Expr) : Type 0 where
   pub receiver : Expr
@@ -156,7 +156,7 @@ pub record InstanceCallAt (d : ℕ) (s : List ℕ) (at stop : ℕ) (e : Expr) : 
   pub weak : ByteAt s stop 2 (at + 5)
   pub one : ExprAt d s stop (at + 6) receiver second
   pub call : CallAt d s stop second callee args list
-  pub tree : e ≡ instanceCall at (getD s (at + 5) 0) receiver callee (exprs args)
+  pub tree : e ≡ instanceCall at (getD s (at + 5) 0) receiver callee (exprsOf args)
 
 pub record ClosureCallAt (d : ℕ) (s : List ℕ) (at stop : ℕ) (e : Expr) : Type 0 where
   pub closure : Expr
@@ -164,7 +164,7 @@ pub record ClosureCallAt (d : ℕ) (s : List ℕ) (at stop : ℕ) (e : Expr) : T
   pub second : ℕ
   pub one : ExprAt d s stop (at + 5) closure second
   pub run : RunAt s stop (parseExpr d s) (second + 6) args stop
-  pub tree : e ≡ closureCall at closure (number 4 s second) (number 2 s (second + 4)) (exprs args)
+  pub tree : e ≡ closureCall at closure (number 4 s second) (number 2 s (second + 4)) (exprsOf args)
 
 -- 3. Statements
 
@@ -173,10 +173,10 @@ pub record EvalAt (d : ℕ) (s : List ℕ) (at stop : ℕ) (t : Stmt) : Type 0 w
   pub one : ExprAt d s stop (at + 5) value stop
   pub tree : t ≡ expr at value
 
-pub record NestAt (d : ℕ) (s : List ℕ) (at stop : ℕ) (t : Stmt) : Type 0 where
+pub record BlockAt (d : ℕ) (s : List ℕ) (at stop : ℕ) (t : Stmt) : Type 0 where
   pub body : List Stmt
   pub run : RunAt s stop (parseStmt d s) (at + 5) body stop
-  pub tree : t ≡ nest at (block body)
+  pub tree : t ≡ block at (blockOf body)
 
 pub record WhileAt (d : ℕ) (s : List ℕ) (at stop : ℕ) (t : Stmt) : Type 0 where
   pub test : Expr
@@ -184,7 +184,7 @@ pub record WhileAt (d : ℕ) (s : List ℕ) (at stop : ℕ) (t : Stmt) : Type 0 
   pub second : ℕ
   pub one : ExprAt d s stop (at + 5) test second
   pub run : RunAt s stop (parseStmt d s) second body stop
-  pub tree : t ≡ while at test (block body)
+  pub tree : t ≡ while at test (blockOf body)
 
 -- an item of Branches or Switch, which ends at `next`
 pub record ArmAt (d : ℕ) (s : List ℕ) (holder at : ℕ) (c : Expr) (b : Block) (next : ℕ) : Type 0 where
@@ -192,12 +192,12 @@ pub record ArmAt (d : ℕ) (s : List ℕ) (holder at : ℕ) (c : Expr) (b : Bloc
   pub second : ℕ
   pub one : ExprAt d s holder at c second
   pub run : RunAt s holder (parseStmt d s) second body next
-  pub block-is : b ≡ block body
+  pub block-is : b ≡ blockOf body
 
 -- what a mark says is there, up to the node's end
 pub data DefaultAt (d : ℕ) (s : List ℕ) (stop at : ℕ) : (mark : ℕ) → Default → Type 0 where
   none : at ≡ stop → DefaultAt d s stop at 0 absent
-  some : {m : ℕ} (body : List Stmt) → RunAt s stop (parseStmt d s) at body stop → DefaultAt d s stop at (suc m) (present (block body))
+  some : {m : ℕ} (body : List Stmt) → RunAt s stop (parseStmt d s) at body stop → DefaultAt d s stop at (suc m) (present (blockOf body))
 
 pub record BranchesAt (d : ℕ) (s : List ℕ) (at stop : ℕ) (t : Stmt) : Type 0 where
   pub arms : List (Expr × Block)
@@ -223,7 +223,7 @@ pub record SwitchAt (d : ℕ) (s : List ℕ) (at stop : ℕ) (t : Stmt) : Type 0
 pub record InitArrayAt (d : ℕ) (s : List ℕ) (at stop : ℕ) (t : Stmt) : Type 0 where
   pub elements : List Expr
   pub run : RunAt s stop (parseExpr d s) (at + 13) elements stop
-  pub tree : t ≡ initArray at (number 4 s (at + 5)) (number 4 s (at + 9)) (exprs elements)
+  pub tree : t ≡ initArray at (number 4 s (at + 5)) (number 4 s (at + 9)) (exprsOf elements)
 
 pub record InitDefaultAt (s : List ℕ) (at stop : ℕ) (t : Stmt) : Type 0 where
   pub byte : ByteAt s stop 23 (at + 9)
@@ -247,8 +247,8 @@ pub data ReturnAt (d : ℕ) (s : List ℕ) (at stop : ℕ) : (mark : ℕ) → St
 
 pub record UnitAt (s : List ℕ) (u : Script) (next : ℕ) : Type 0 where
   pub body : List Stmt
-  pub short : length s ≤ 1048576
+  pub short : length s ≤ unitLimit
   pub mark : getD s 5 0 < 2
-  pub run : RunAt s (length s) (parseStmt 200 s) 6 body (length s)
+  pub run : RunAt s (length s) (parseStmt depthLimit s) 6 body (length s)
   pub ends : next ≡ length s
-  pub tree : u ≡ record { returns = getD s 5 0; body = block body }
+  pub tree : u ≡ record { returns = getD s 5 0; body = blockOf body }

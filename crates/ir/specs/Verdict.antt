@@ -13,8 +13,8 @@ use Rattle.ir.specs.declared.Number.{Number}
 use Rattle.ir.specs.declared.Number.the-variants.{Is, Not}
 use Rattle.ir.specs.declared.Head.{Head}
 use Rattle.ir.specs.declared.Head.the-variants.{Of, No}
-use Rattle.ir.specs.declared.Checked.{Checked}
-use Rattle.ir.specs.declared.Checked.the-variants.{Reads, Fails}
+use Rattle.ir.specs.declared.ReadUnit.{ReadUnit}
+use Rattle.ir.specs.declared.ReadUnit.the-variants.{Reads, Fails}
 
 unfoldable pub verdict : {A : Type 0} → Answer A → Read
 verdict (ok a n) = At n
@@ -56,10 +56,6 @@ numberOf (Refused q) v = Not q
 abbrev pub paramsOf : Callee → ℕ
 paramsOf c = length (c .params)
 
--- a byte that was read, tested as `small` does
-unfoldable pub listed : (node bound value : ℕ) → Parser ℕ
-listed node bound v = λ at. elim (ltb v bound) [ true ↦ ok v at | false ↦ refused 2 node 0 ]
-
 -- the end of a call, as `arguments` has it, of how many arguments there are
 unfoldable pub closing : (node end params count : ℕ) → Parser ℕ
 closing node end params count = do
@@ -78,11 +74,11 @@ headed (ok v n) = Of (v .0) (v .1) n
 headed (refused n p x) = No (record { number = n; place = p; extra = x })
 
 -- the answer of a unit: its return byte and where its block ends
-unfoldable pub scripted : Answer Script → Checked
+unfoldable pub scripted : Answer Script → ReadUnit
 scripted (ok u n) = Reads (u .returns) n
 scripted (refused n p x) = Fails (record { number = n; place = p; extra = x })
 
 -- the same of where the reader stands at its end
-unfoldable pub unitOf : Read → (returns : ℕ) → Checked
+unfoldable pub unitOf : Read → (returns : ℕ) → ReadUnit
 unitOf (At n) r = Reads r n
 unitOf (Refused q) r = Fails q

@@ -3,24 +3,29 @@ ghost use mathlib.Core.Path.{_≡_};
 ghost use Prim.Native.Nat.{ℕ, _≤_};
 ghost use lib.ListN.{length, getD};
 ghost use Rattle.definitions.specs.Tag.{constWidths};
-ghost use Rattle.definitions.specs.Read.{unsigned, small, marks, payload, asConst, asInitDefault, callee, span, ended, refuse, head};
-ghost use Rattle.ir.specs.Verdict.{after, numberAfter, countedAfter, headed, cursorOf, valueOf, numberOf, paramsOf, listed, closing};
+ghost use Rattle.definitions.specs.Read.{unsigned, byteBelow, markBytes, payload, asConst, asInitDefault, callee, span, ended, unknownKind, head};
+ghost use Rattle.ir.specs.Verdict.{after, numberAfter, countedAfter, headed, cursorOf, valueOf, numberOf, paramsOf, closing};
 use super::Head;
 use super::Number;
 use super::Read;
 use super::Refusal;
-use super::numbers::u32_at;
-use super::numbers::wide;
+use instr::numbers::u32_at;
+use instr::numbers::wide;
 
-// The bytes that a constant's value has, by its byte.
+// The bytes that a constant's value has, by its byte, of which the last is that of Bool.
 const WIDTHS: [usize; 16] = [4, 4, 4, 4, 8, 4, 8, 1, 2, 4, 8, 1, 2, 4, 8, 1];
+
+const CONST_BOOL: usize = 15;
 
 // Where the reader stands after a number.
 pub fn cursor_of(n: Number) -> Read
     ensures { λ r. ⌜ r ≡ cursorOf n ⌝ }
 {
     match n {
-        Number::Is(_value, next) => Read::At(next),
+        Number::Is {
+            value: _value,
+            next,
+        } => Read::At(next),
         Number::Not(q) => Read::Refused(q),
     }
 }
@@ -30,7 +35,7 @@ pub fn value_of(n: Number) -> usize
     ensures { λ r. ⌜ r ≡ valueOf n ⌝ }
 {
     match n {
-        Number::Is(value, _next) => value,
+        Number::Is { value, next: _next } => value,
         Number::Not(_q) => 0,
     }
 }
@@ -41,7 +46,7 @@ fn number_of(from: Read, value: usize) -> Number
 {
     match from {
         Read::Refused(q) => Number::Not(q),
-        Read::At(next) => Number::Is(value, next),
+        Read::At(next) => Number::Is { value, next },
     }
 }
 
@@ -73,7 +78,10 @@ fn u32_field(s: &[u8], at: usize, node: usize, end: usize) -> Number
 {
     match skip(s, Read::At(at), node, end, 4) {
         Read::Refused(q) => Number::Not(q),
-        Read::At(next) => Number::Is(u32_at(s, at), next),
+        Read::At(next) => Number::Is {
+            value: u32_at(s, at),
+            next,
+        },
     }
 }
 
@@ -86,55 +94,54 @@ fn byte_field(s: &[u8], from: Read, node: usize, end: usize) -> Number
         Read::Refused(q) => Number::Not(q),
         Read::At(at) => match skip(s, Read::At(at), node, end, 1) {
             Read::Refused(q) => Number::Not(q),
-            Read::At(next) => Number::Is(wide(s[at]), next),
+            Read::At(next) => Number::Is {
+                value: wide(s[at]),
+                next,
+            },
         },
     }
 }
 
-// A byte that was read, tested: it must be below `bound`.
-fn below(byte: Number, node: usize, bound: usize) -> Number
-    ensures { λ r. ⌜ r ≡ numberAfter (cursorOf byte) (listed node bound (valueOf byte)) ⌝ }
+// A field of one byte that is below `bound`, with its value.
+pub fn byte_below(s: &[u8], from: Read, node: usize, end: usize, bound: usize) -> Number
+    requires { ⌜ end ≤ length (now s) ⌝ }
+    ensures { λ r. ⌜ r ≡ numberAfter from (byteBelow (now (s .entry)) node end bound) ⌝ }
 {
-    match byte {
-        Number::Not(q) => Number::Not(q),
-        Number::Is(value, next) => {
-            if value < bound {
-                return Number::Is(value, next);
+    match from {
+        Read::Refused(q) => Number::Not(q),
+        Read::At(at) => match byte_field(s, Read::At(at), node, end) {
+            Number::Not(q) => Number::Not(q),
+            Number::Is { value, next } => {
+                if value < bound {
+                    return Number::Is { value, next };
+                }
+                Number::Not(Refusal {
+                    number: 2,
+                    place: node,
+                    extra: 0,
+                })
             }
-            Number::Not(Refusal {
-                number: 2,
-                place: node,
-                extra: 0,
-            })
-        }
+        },
     }
 }
 
-// A field of one byte that is below `bound`, with its value.
-pub fn small_field(s: &[u8], from: Read, node: usize, end: usize, bound: usize) -> Number
-    requires { ⌜ end ≤ length (now s) ⌝ }
-    ensures { λ r. ⌜ r ≡ numberAfter from (small (now (s .entry)) node end bound) ⌝ }
-{
-    below(byte_field(s, from, node, end), node, bound)
-}
-
 // A field of one byte that is below `bound`.
-pub fn skip_small(s: &[u8], from: Read, node: usize, end: usize, bound: usize) -> Read
+pub fn skip_below(s: &[u8], from: Read, node: usize, end: usize, bound: usize) -> Read
     requires { ⌜ end ≤ length (now s) ⌝ }
-    ensures { λ r. ⌜ r ≡ after from (small (now (s .entry)) node end bound) ⌝ }
+    ensures { λ r. ⌜ r ≡ after from (byteBelow (now (s .entry)) node end bound) ⌝ }
 {
-    cursor_of(small_field(s, from, node, end, bound))
+    cursor_of(byte_below(s, from, node, end, bound))
 }
 
 // n marks.
 fn skip_marks(s: &[u8], from: Read, node: usize, end: usize, n: usize) -> Read
     requires { ⌜ end ≤ length (now s) ⌝ }
-    ensures { λ r. ⌜ r ≡ after from (marks (now (s .entry)) node end n) ⌝ }
+    ensures { λ r. ⌜ r ≡ after from (markBytes (now (s .entry)) node end n) ⌝ }
 {
     let mut to = from;
     let mut left = n;
     while 0 < left {
-        to = skip_small(s, to, node, end, 2);
+        to = skip_below(s, to, node, end, 2);
         left -= 1;
     }
     to
@@ -154,8 +161,8 @@ fn skip_payload(s: &[u8], from: Read, node: usize, end: usize, byte: usize) -> R
     requires { ⌜ end ≤ length (now s) ⌝ }
     ensures { λ r. ⌜ r ≡ after from (payload (now (s .entry)) node end byte) ⌝ }
 {
-    if byte == 15 {
-        return skip_small(s, from, node, end, 2);
+    if byte == CONST_BOOL {
+        return skip_below(s, from, node, end, 2);
     }
     skip(s, from, node, end, const_width(byte))
 }
@@ -165,7 +172,7 @@ pub fn skip_const(s: &[u8], from: Read, node: usize, end: usize) -> Read
     requires { ⌜ end ≤ length (now s) ⌝ }
     ensures { λ r. ⌜ r ≡ after from (asConst (now (s .entry)) node end) ⌝ }
 {
-    let byte = small_field(s, from, node, end, 16);
+    let byte = byte_below(s, from, node, end, 16);
     skip_payload(s, cursor_of(byte), node, end, value_of(byte))
 }
 
@@ -175,7 +182,7 @@ pub fn skip_init(s: &[u8], from: Read, node: usize, end: usize) -> Read
     ensures { λ r. ⌜ r ≡ after from (asInitDefault (now (s .entry)) node end) ⌝ }
 {
     let local = skip(s, from, node, end, 4);
-    let byte = skip_small(s, local, node, end, 23);
+    let byte = skip_below(s, local, node, end, 23);
     skip(s, byte, node, end, 4)
 }
 
@@ -187,7 +194,7 @@ pub fn read_callee(s: &[u8], from: Read, node: usize, end: usize) -> Number
     let function = skip(s, from, node, end, 4);
     let name = skip(s, function, node, end, 4);
     let line = skip(s, name, node, end, 2);
-    let flags = skip_small(s, line, node, end, 16);
+    let flags = skip_below(s, line, node, end, 16);
     let params = byte_field(s, flags, node, end);
     let n = value_of(params);
     number_of(skip_marks(s, cursor_of(params), node, end, n), n)
@@ -200,9 +207,9 @@ pub fn span_at(s: &[u8], at: usize, end: usize) -> Number
 {
     match u32_field(s, at, at, end) {
         Number::Not(q) => Number::Not(q),
-        Number::Is(n, next) => match skip(s, Read::At(next), at, end, n) {
+        Number::Is { value: n, next } => match skip(s, Read::At(next), at, end, n) {
             Read::Refused(q) => Number::Not(q),
-            Read::At(stop) => Number::Is(stop, next),
+            Read::At(stop) => Number::Is { value: stop, next },
         },
     }
 }
@@ -214,9 +221,13 @@ pub fn head_at(s: &[u8], at: usize, end: usize) -> Head
 {
     match span_at(s, at, end) {
         Number::Not(q) => Head::No(q),
-        Number::Is(stop, next) => match byte_field(s, Read::At(next), at, stop) {
-            Number::Not(q) => Head::No(q),
-            Number::Is(kind, body) => Head::Of(kind, stop, body),
+        Number::Is { value: stop, next } => match skip(s, Read::At(next), at, stop, 1) {
+            Read::Refused(q) => Head::No(q),
+            Read::At(body) => Head::Of {
+                kind: s[next],
+                end: stop,
+                body,
+            },
         },
     }
 }
@@ -261,7 +272,7 @@ pub fn close_call(from: Read, node: usize, end: usize, params: usize, count: usi
 
 // A kind that is not listed.
 pub fn refuse_kind(from: Read, node: usize) -> Read
-    ensures { λ r. ⌜ r ≡ after from (refuse {A = ℕ} 2 node 0) ⌝ }
+    ensures { λ r. ⌜ r ≡ after from (unknownKind {A = ℕ} node) ⌝ }
 {
     match from {
         Read::Refused(q) => Read::Refused(q),

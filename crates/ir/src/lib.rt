@@ -4,14 +4,20 @@ ghost use Rattle.definitions.specs.Read.{frontGood, parseUnit};
 ghost use Rattle.ir.specs.Verdict.{scripted, unitOf};
 
 pub mod args;
+pub mod expr;
 mod fields;
 mod nodes;
-pub mod numbers;
+pub mod stmt;
 
 use fields::close_node;
+use instr::numbers::u32_at;
+use instr::numbers::wide;
 use nodes::read_run;
-use numbers::u32_at;
-use numbers::wide;
+
+// The most bytes of a unit, and the most nodes one in another.
+pub const UNIT_LIMIT: usize = 1048576;
+
+pub const DEPTH_LIMIT: usize = 200;
 
 // Why a unit is not taken: the number of the refusal, its place and an extra number.
 pub struct Refusal {
@@ -28,19 +34,19 @@ pub enum Read {
 
 // A number that was read and the position after it, or the refusal.
 pub enum Number {
-    Is(usize, usize),
+    Is { value: usize, next: usize },
     Not(Refusal),
 }
 
 // A node's kind, its end and where its fields begin, or the refusal.
 pub enum Head {
-    Of(usize, usize, usize),
+    Of { kind: u8, end: usize, body: usize },
     No(Refusal),
 }
 
 // A unit's return byte and where its block ends, or the refusal.
-pub enum Checked {
-    Reads(usize, usize),
+pub enum ReadUnit {
+    Reads { returns: usize, end: usize },
     Fails(Refusal),
 }
 
@@ -58,7 +64,7 @@ pub enum Item {
 
 // The head of an argument: an AsRef call, with where its arguments begin and end; one that is not a prvalue; any other.
 pub enum Arg {
-    AsRef(usize, usize),
+    AsRef { first: usize, stop: usize },
     Place,
     Value,
 }
@@ -71,7 +77,7 @@ fn front_good(unit: &[u8]) -> bool
     if n < 6 {
         return false;
     }
-    if 1048576 < n {
+    if UNIT_LIMIT < n {
         return false;
     }
     if unit[0] != 1 {
@@ -84,25 +90,31 @@ fn front_good(unit: &[u8]) -> bool
 }
 
 // What was read, with the return byte.
-fn unit_of(last: Read, returns: usize) -> Checked
+fn unit_of(last: Read, returns: usize) -> ReadUnit
     ensures { λ r. ⌜ r ≡ unitOf last returns ⌝ }
 {
     match last {
-        Read::Refused(q) => Checked::Fails(q),
-        Read::At(end) => Checked::Reads(returns, end),
+        Read::Refused(q) => ReadUnit::Fails(q),
+        Read::At(end) => ReadUnit::Reads { returns, end },
     }
 }
 
 // A unit: its return byte and where its block ends, or the refusal.
-pub fn read_unit(unit: &[u8]) -> Checked
+pub fn read_unit(unit: &[u8]) -> ReadUnit
     ensures { λ r. ⌜ r ≡ scripted (parseUnit (now (unit .entry))) ⌝ }
 {
     if front_good(unit) {
         let end = unit.len();
-        let block = read_run(unit, Read::At(6), end, 200, Item::Node(Class::Statement));
+        let block = read_run(
+            unit,
+            Read::At(6),
+            end,
+            DEPTH_LIMIT,
+            Item::Node(Class::Statement),
+        );
         return unit_of(close_node(block, 6, end), wide(unit[5]));
     }
-    Checked::Fails(Refusal {
+    ReadUnit::Fails(Refusal {
         number: 1,
         place: 0,
         extra: 0,

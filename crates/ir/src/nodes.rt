@@ -12,6 +12,8 @@ use super::Item;
 use super::Number;
 use super::Read;
 use super::Refusal;
+use super::expr;
+use super::fields::byte_below;
 use super::fields::close_call;
 use super::fields::close_node;
 use super::fields::cursor_of;
@@ -19,12 +21,12 @@ use super::fields::head_at;
 use super::fields::read_callee;
 use super::fields::refuse_kind;
 use super::fields::skip;
+use super::fields::skip_below;
 use super::fields::skip_const;
 use super::fields::skip_init;
-use super::fields::skip_small;
-use super::fields::small_field;
 use super::fields::span_at;
 use super::fields::value_of;
+use super::stmt;
 
 // A node of a class, in a holder that ends at `end`: its depth, its head, what its kind asks, its end.
 pub fn read_node(s: &[u8], from: Read, end: usize, depth: usize, class: Class) -> Read
@@ -43,7 +45,11 @@ pub fn read_node(s: &[u8], from: Read, end: usize, depth: usize, class: Class) -
             }
             match head_at(s, at, end) {
                 Head::No(q) => Read::Refused(q),
-                Head::Of(kind, stop, body) => {
+                Head::Of {
+                    kind,
+                    end: stop,
+                    body,
+                } => {
                     let fields = Read::At(body);
                     let inner = match class {
                         Class::Statement => stmt_kind(s, fields, at, stop, kind, depth - 1),
@@ -57,40 +63,40 @@ pub fn read_node(s: &[u8], from: Read, end: usize, depth: usize, class: Class) -
 }
 
 // What the statement's kind asks, with depth for the nodes in it.
-fn stmt_kind(s: &[u8], from: Read, node: usize, end: usize, kind: usize, depth: usize) -> Read
+fn stmt_kind(s: &[u8], from: Read, node: usize, end: usize, kind: u8, depth: usize) -> Read
     requires { ⌜ end ≤ length (now s) ⌝ }
     ensures { λ r. ⌜ r ≡ after from (kindOf Statement depth (now (s .entry)) kind node end) ⌝ }
 {
     match kind {
-        1 => read_node(s, from, end, depth, Class::Expression),
-        2 => read_run(s, from, end, depth, Item::Node(Class::Statement)),
-        3 => {
+        stmt::EXPR => read_node(s, from, end, depth, Class::Expression),
+        stmt::BLOCK => read_run(s, from, end, depth, Item::Node(Class::Statement)),
+        stmt::WHILE => {
             let test = read_node(s, from, end, depth, Class::Expression);
             read_run(s, test, end, depth, Item::Node(Class::Statement))
         }
-        4 => {
+        stmt::BRANCHES => {
             let arms = read_run(s, from, end, depth, Item::Arm);
-            let mark = small_field(s, arms, node, end, 2);
+            let mark = byte_below(s, arms, node, end, 2);
             read_default(s, cursor_of(mark), end, depth, value_of(mark))
         }
-        5 => {
+        stmt::SWITCH => {
             let typ = skip(s, from, node, end, 4);
             let on = read_node(s, typ, end, depth, Class::Expression);
             let index = skip(s, on, node, end, 4);
-            let mark = small_field(s, index, node, end, 2);
+            let mark = byte_below(s, index, node, end, 2);
             let cases = read_run(s, cursor_of(mark), end, depth, Item::Arm);
             read_default(s, cases, end, depth, value_of(mark))
         }
-        6 => {
+        stmt::INIT_ARRAY => {
             let local = skip(s, from, node, end, 4);
             let typ = skip(s, local, node, end, 4);
             read_run(s, typ, end, depth, Item::Node(Class::Expression))
         }
-        7 => skip_init(s, from, node, end),
-        8 => from,
-        9 => from,
-        10 => {
-            let mark = small_field(s, from, node, end, 2);
+        stmt::INIT_DEFAULT => skip_init(s, from, node, end),
+        stmt::BREAK => from,
+        stmt::CONTINUE => from,
+        stmt::RETURN => {
+            let mark = byte_below(s, from, node, end, 2);
             read_return(s, cursor_of(mark), node, end, depth, value_of(mark))
         }
         _ => refuse_kind(from, node),
@@ -98,35 +104,35 @@ fn stmt_kind(s: &[u8], from: Read, node: usize, end: usize, kind: usize, depth: 
 }
 
 // What the expression's kind asks, with depth for the nodes in it.
-fn expr_kind(s: &[u8], from: Read, node: usize, end: usize, kind: usize, depth: usize) -> Read
+fn expr_kind(s: &[u8], from: Read, node: usize, end: usize, kind: u8, depth: usize) -> Read
     requires { ⌜ end ≤ length (now s) ⌝ }
     ensures { λ r. ⌜ r ≡ after from (kindOf Expression depth (now (s .entry)) kind node end) ⌝ }
 {
     match kind {
-        1 => from,
-        2 => skip_const(s, from, node, end),
-        3 => skip_small(s, from, node, end, 2),
-        4 => skip(s, from, node, end, 4),
-        5 => {
+        expr::NOP => from,
+        expr::CONST => skip_const(s, from, node, end),
+        expr::NULL => skip_below(s, from, node, end, 2),
+        expr::NEW_INSTANCE => skip(s, from, node, end, 4),
+        expr::CONSTRUCT => {
             let class = skip(s, from, node, end, 4);
             read_run(s, class, end, depth, Item::Node(Class::Expression))
         }
-        6 => {
+        expr::ASSIGN => {
             let place = read_node(s, from, end, depth, Class::Expression);
             read_node(s, place, end, depth, Class::Expression)
         }
-        7 => {
-            let form = skip_small(s, from, node, end, 3);
+        expr::FIELD => {
+            let form = skip_below(s, from, node, end, 3);
             let field = skip(s, form, node, end, 4);
             read_node(s, field, end, depth, Class::Expression)
         }
-        8 => {
-            let dynamic = skip_small(s, from, node, end, 2);
+        expr::INDEX => {
+            let dynamic = skip_below(s, from, node, end, 2);
             let typ = skip(s, dynamic, node, end, 4);
             let array = read_node(s, typ, end, depth, Class::Expression);
             read_node(s, array, end, depth, Class::Expression)
         }
-        9 => {
+        expr::CONDITIONAL => {
             let test = read_node(s, from, end, depth, Class::Expression);
             let then = read_node(s, test, end, depth, Class::Expression);
             read_node(s, then, end, depth, Class::Expression)
@@ -137,35 +143,35 @@ fn expr_kind(s: &[u8], from: Read, node: usize, end: usize, kind: usize, depth: 
 }
 
 // The same for the kinds from 10 on, most of which are calls.
-fn late_kind(s: &[u8], from: Read, node: usize, end: usize, kind: usize, depth: usize) -> Read
+fn late_kind(s: &[u8], from: Read, node: usize, end: usize, kind: u8, depth: usize) -> Read
     requires { ⌜ (end ≤ length (now s)) × (9 < kind) ⌝ }
     ensures { λ r. ⌜ r ≡ after from (kindOf Expression depth (now (s .entry)) kind node end) ⌝ }
 {
     match kind {
-        10 => {
+        expr::DYN_CAST => {
             let class = skip(s, from, node, end, 4);
-            let weak = skip_small(s, class, node, end, 2);
+            let weak = skip_below(s, class, node, end, 2);
             read_node(s, weak, end, depth, Class::Expression)
         }
-        11 => {
-            let form = skip_small(s, from, node, end, 4);
+        expr::LOCAL => {
+            let form = skip_below(s, from, node, end, 4);
             skip(s, form, node, end, 4)
         }
-        12 => {
-            let code = skip_small(s, from, node, end, 34);
-            let mark = skip_small(s, code, node, end, 2);
+        expr::INTRINSIC_CALL => {
+            let code = skip_below(s, from, node, end, 34);
+            let mark = skip_below(s, code, node, end, 2);
             let types = skip(s, mark, node, end, 1);
             let index = skip(s, types, node, end, 4);
             read_run(s, index, end, depth, Item::Node(Class::Expression))
         }
-        13 => read_call(s, from, node, end, depth),
-        14 => read_call(s, from, node, end, depth),
-        15 => {
-            let weak = skip_small(s, from, node, end, 2);
+        expr::FREE_CALL => read_call(s, from, node, end, depth),
+        expr::STATIC_CALL => read_call(s, from, node, end, depth),
+        expr::INSTANCE_CALL => {
+            let weak = skip_below(s, from, node, end, 2);
             let on = read_node(s, weak, end, depth, Class::Expression);
             read_call(s, on, node, end, depth)
         }
-        16 => {
+        expr::CLOSURE_CALL => {
             let closure = read_node(s, from, end, depth, Class::Expression);
             let name = skip(s, closure, node, end, 4);
             let line = skip(s, name, node, end, 2);
@@ -208,7 +214,10 @@ fn read_list(s: &[u8], from: Read, end: usize, depth: usize, item: Item) -> Numb
         Read::Refused(q) => Number::Not(q),
         Read::At(at) => match span_at(s, at, end) {
             Number::Not(q) => Number::Not(q),
-            Number::Is(stop, first) => fill_run(s, first, stop, depth, item),
+            Number::Is {
+                value: stop,
+                next: first,
+            } => fill_run(s, first, stop, depth, item),
         },
     }
 }
@@ -231,7 +240,10 @@ fn fill_run(s: &[u8], first: usize, stop: usize, depth: usize, item: Item) -> Nu
             }
         }
     }
-    Number::Is(count, stop)
+    Number::Is {
+        value: count,
+        next: stop,
+    }
 }
 
 // An item of a run: a node, or an arm, which is a condition (a matcher) and a block.

@@ -1,19 +1,19 @@
 -- The theorem applied: to document 01's example (a), and to a switch with a mid default in a loop. The statement is not empty, and these are its numbers.
-use Prim.Native.Nat.{ℕ, zero, suc, _+_}
-use mathlib.Core.Path.{_≡_, refl, _∙_}
+use Prim.Native.Nat.{ℕ}
+use mathlib.Core.Path.{_≡_, refl}
 use mathlib.Core.List.{List, [], _∷_}
-use lib.IntN.{ℤ, pos, negsuc}
-use Rattle.definitions.specs.Answer.{ok, made, bind}
+use lib.IntN.{pos, negsuc}
+use Rattle.definitions.specs.Answer.{ok, made, bind, onward, checked}
 use Rattle.definitions.specs.Bytes.{number, bytes}
 use Rattle.definitions.specs.Tag
-use Rattle.definitions.specs.Tag.{sizes, tagSize, rows, rowOf, constTags, constTag, constWidths}
-use Rattle.definitions.specs.Instr.{Instr, plain}
-use Rattle.definitions.specs.Tree.{Script, nop, const, expr, while, switch, break, continue, bnil, bcons, cnil, ccons, present, exprs, block, casesOf, lengthC, isPresent}
-use Rattle.definitions.specs.Read.{_>>=_, give, unsigned, small, room, span, items, filling, run, head, ended, node, pick, asNop, payload, asConst, exprKinds, exprBody, parseExpr, asExpr, asWhile, arm, blockIf, asSwitch, asBreak, asContinue, stmtKinds, stmtBody, parseStmt, frontGood, parseUnit}
-use Rattle.definitions.specs.Code.{State, going, many, andThen, unmarked, labelLimit, step, execute}
+use Rattle.definitions.specs.Tag.{sizes, tagSize, rows, rowOf, constTag, constWidths}
+use Rattle.definitions.specs.Instr.{Instr, size, plain}
+use Rattle.definitions.specs.Tree.{Script, nop, const, expr, while, switch, break, continue, bnil, bcons, cnil, ccons, present, exprsOf, blockOf, casesOf, lengthCases, isPresent}
+use Rattle.definitions.specs.Read.{_>>=_, give, unsigned, byteBelow, room, span, items, filling, run, head, ended, node, pick, asNop, payload, asConst, exprKinds, exprBody, parseExpr, asExpr, asWhile, arm, blockIf, asSwitch, asBreak, asContinue, stmtKinds, stmtBody, parseStmt, frontGood, parseUnit}
+use Rattle.definitions.specs.Code.{State, many, unmarked, labelLimit, step, execute}
 use Rattle.definitions.specs.Lower.{lowerExpr, jumpTo, midDefault, lowerStmt, lower}
 use Rattle.definitions.specs.Resolve.{inRange, word, resolveRecords}
-use Rattle.landing.specs.Distance.{back, sizeE, sizeS, distE, toDefault, distM, distS, distancesOf}
+use Rattle.landing.specs.Distance.{back, sizeExpr, sizeStmt, distExpr, toDefault, distMatchers, distStmt, distancesOf}
 use Rattle.landing.specs.Landed.{left, filledField, filled, orElse, farField, firstFar, unlessFar, withDistances, Landed}
 use Rattle.landing.proofs.Theorem.{landing}
 
@@ -34,11 +34,11 @@ listing-a = record {
 }
 
 reads-a : parseUnit (bytes 31 0x010000001A0000000015000000110300000003020F00000000050000000108) ≡ ok script-a 31
-unfolding parseUnit frontGood run unsigned small number bytes room span items filling head node exprBody exprKinds parseExpr stmtKinds parseStmt stmtBody pick ended bind give _>>=_ payload asConst constWidths asWhile asBreak exprs block
+unfolding parseUnit frontGood run unsigned byteBelow number bytes room span items filling head node exprBody exprKinds parseExpr stmtKinds parseStmt stmtBody pick ended bind give _>>=_ payload asConst constWidths asWhile asBreak exprsOf blockOf
 reads-a = refl
 
-lowers-a : lower script-a ≡ going listing-a
-unfolding execute step andThen unmarked labelLimit lowerExpr lowerStmt jumpTo constTag rowOf rows tagSize sizes
+lowers-a : lower script-a ≡ made listing-a
+unfolding execute step onward checked unmarked labelLimit lowerExpr lowerStmt jumpTo constTag rowOf rows tagSize sizes size
 lowers-a = refl
 
 landed-a : Landed script-a listing-a
@@ -46,12 +46,12 @@ landed-a = landing (bytes 31 0x010000001A0000000015000000110300000003020F0000000
 
 -- 10, 6 and -7
 distances-a : distancesOf script-a ≡ pos 10 ∷ pos 6 ∷ negsuc 6 ∷ []
-unfolding distS sizeS sizeE distE back tagSize sizes constTag
+unfolding distStmt sizeStmt sizeExpr distExpr back tagSize sizes constTag
 distances-a = refl
 
 pub resolved-a : resolveRecords (0 ∷ 10 ∷ []) 0 0 (listing-a .instrs) ≡
     made (jump Tag.JumpIfFalse 10 0 0 ∷ plain Tag.FalseConst 0 0 ∷ jump Tag.Jump 6 0 0 ∷ jump Tag.Jump 65529 0 0 ∷ [])
-unfolding withDistances firstFar filled left filledField farField orElse unlessFar inRange word distS sizeS sizeE distE back tagSize sizes constTag rowOf rows
+unfolding withDistances firstFar filled left filledField farField orElse unlessFar inRange word distStmt sizeStmt sizeExpr distExpr back tagSize sizes constTag rowOf rows
 resolved-a = landed-a .resolves
 
 -- 2. while (nop) { switch (nop) { case nop: break; default: nop; case nop: continue } }, the default before case 1
@@ -75,11 +75,11 @@ abbrev unit-mid : List ℕ
 unit-mid = bytes 89 0x0100000054000000004F0000004B030000000101000000410000003D0500000009000000010100000001010000001C000000010100000005000000010800000001010000000500000001090000000A00000006010000000101
 
 reads-mid : parseUnit unit-mid ≡ ok script-mid 89
-unfolding parseUnit frontGood run unsigned small number bytes room span items filling head node exprBody exprKinds parseExpr stmtKinds parseStmt stmtBody pick ended bind give _>>=_ asNop asExpr asWhile arm blockIf asSwitch asBreak asContinue exprs block casesOf
+unfolding parseUnit frontGood run unsigned byteBelow number bytes room span items filling head node exprBody exprKinds parseExpr stmtKinds parseStmt stmtBody pick ended bind give _>>=_ asNop asExpr asWhile arm blockIf asSwitch asBreak asContinue exprsOf blockOf casesOf
 reads-mid = refl
 
-lowers-mid : lower script-mid ≡ going listing-mid
-unfolding execute step andThen many unmarked labelLimit lowerExpr lowerStmt jumpTo midDefault isPresent lengthC rowOf rows tagSize sizes
+lowers-mid : lower script-mid ≡ made listing-mid
+unfolding execute step onward checked many unmarked labelLimit lowerExpr lowerStmt jumpTo midDefault isPresent lengthCases rowOf rows tagSize sizes size
 lowers-mid = refl
 
 landed-mid : Landed script-mid listing-mid
@@ -87,11 +87,11 @@ landed-mid = landing unit-mid script-mid 89 reads-mid listing-mid lowers-mid
 
 -- loop; switch; two SwitchLabels, each next and body; the Jump after SwitchDefault; break; continue; closing Jump
 pub distances-mid : distancesOf script-mid ≡ pos 42 ∷ pos 12 ∷ pos 6 ∷ pos 16 ∷ pos 6 ∷ pos 14 ∷ pos 6 ∷ pos 7 ∷ negsuc 35 ∷ negsuc 38 ∷ []
-unfolding distS distM toDefault sizeS sizeE distE back tagSize sizes midDefault isPresent lengthC
+unfolding distStmt distMatchers toDefault sizeStmt sizeExpr distExpr back tagSize sizes midDefault isPresent lengthCases
 distances-mid = refl
 
 pub resolved-mid : resolveRecords (listing-mid .marks) 0 0 (listing-mid .instrs) ≡
     made (jump Tag.JumpIfFalse 42 0 0 ∷ plain Tag.Nop 0 0 ∷ jump Tag.Switch 12 0 9 ∷ plain Tag.Nop 0 0 ∷ jump Tag.SwitchLabel 6 16 0 ∷ plain Tag.Nop 0 0 ∷ jump Tag.SwitchLabel 6 14 0 ∷ plain Tag.Nop 0 0
     ∷ plain Tag.SwitchDefault 0 0 ∷ jump Tag.Jump 6 0 0 ∷ jump Tag.Jump 7 0 0 ∷ plain Tag.Nop 0 0 ∷ jump Tag.Jump 65500 0 0 ∷ jump Tag.Jump 65497 0 0 ∷ [])
-unfolding withDistances firstFar filled left filledField farField orElse unlessFar inRange word distS distM toDefault sizeS sizeE distE back tagSize sizes midDefault isPresent lengthC rowOf rows
+unfolding withDistances firstFar filled left filledField farField orElse unlessFar inRange word distStmt distMatchers toDefault sizeStmt sizeExpr distExpr back tagSize sizes midDefault isPresent lengthCases rowOf rows
 resolved-mid = landed-mid .resolves

@@ -1,7 +1,7 @@
 -- What is to be shown of a piece of code, and laws of lists of actions.
 use Prim.Native.Nat.{ℕ, zero, suc, _+_, _<_, _≤_}
 use mathlib.Core.Path.{_≡_, refl, ap}
-use mathlib.Core.List.{List, [], _∷_, _++_, append-assoc}
+use mathlib.Core.List.{List, [], _∷_, _++_}
 use mathlib.Core.Bool.{Bool, true, false}
 use mathlib.Core.Logic.{_≢_}
 use native.Mathlib.Omega.{arith}
@@ -13,27 +13,13 @@ use lib.ListN.{length}
 use lib.IntN.{ℤ, pos, negsuc, subℕ}
 use Rattle.definitions.specs.Tag.{rowOf}
 use Rattle.definitions.specs.Instr.{Instr, size}
-use Rattle.definitions.specs.Code.{Action, Code, new, mark, emit, refuse, done, act, _then_, label}
+use Rattle.definitions.specs.Code.{Action, Code, new, mark, emit, refuse}
 use Rattle.definitions.specs.Resolve.{inRange}
 use Rattle.landing.specs.Distance.{ahead, back}
 use Rattle.landing.specs.Landed.{NotBelow}
+use Rattle.landing.specs.Walk.{news, actions}
 
--- 1. Code as a list of actions
-
--- how many labels a list of actions makes
-unfoldable pub news : List Action → ℕ
-news [] = 0
-news (new at ∷ acts) = suc (news acts)
-news (mark l ∷ acts) = news acts
-news (emit i ∷ acts) = news acts
-news (refuse n p x ∷ acts) = news acts
-
--- the actions of a piece, given how many labels there are before it
-unfoldable pub actions : Code → (labels : ℕ) → List Action
-actions done n = []
-actions (act a) n = a ∷ []
-actions (p then q) n = let acts = actions p n in acts ++ actions q (n + news acts)
-actions (label at k) n = new at ∷ actions (k n) (n + 1)
+-- 1. What a list of actions does
 
 -- the records that actions emit
 unfoldable pub records : List Action → List Instr
@@ -119,6 +105,8 @@ pub record Piece (M : ℕ → ℕ) (o n : ℕ) (p : Code) (s c : ℕ) (made mark
   pub scoped : scope → Scoped n (actions p n)
   pub sized : Agrees M o (actions p n) → total (actions p n) ≡ s
   pub counted : Agrees M o (actions p n) → length (records (actions p n)) ≡ c
+  -- whatever is refused, it emits no more than that
+  pub most : (total (actions p n) ≤ s) × (length (records (actions p n)) ≤ c)
   pub given : Agrees M o (actions p n) → gives
   pub lands : Agrees M o (actions p n) → needs → dists M o (actions p n) ≡ ds
   pub backs : Agrees M o (actions p n) → reach → Backs ds

@@ -1,20 +1,19 @@
 -- Resolving by marks is filling in distances, where every label that is carried is marked.
-use Prim.Native.Nat.{ℕ, zero, suc, _+_, _<_}
-use mathlib.Core.Path.{_≡_, refl, sym, _∙_, ap}
+use Prim.Native.Nat.{ℕ, suc, _+_}
+use mathlib.Core.Path.{_≡_, refl, _∙_}
 use mathlib.Core.Logic.{_≢_, inl, inr}
 use mathlib.Core.List.{List, [], _∷_}
-use mathlib.Core.Bool.{Bool, true, false, cond, _&&_, not}
+use mathlib.Core.Bool.{Bool, true, false, cond, _&&_}
 use mathlib.Core.Option.{none, some}
-use lib.Dec.{eqb}
 use borrow.Author.Tests.{ne-eqb}
 use lib.ListN.{getD}
-use lib.IntN.{ℤ, pos, subℕ}
-use Rattle.definitions.specs.Answer.{Result, made, refusal, onward, checked}
+use lib.IntN.{ℤ, subℕ}
+use Rattle.definitions.specs.Answer.{Result, made, onward, checked}
 use Rattle.definitions.specs.Tag.{rowOf}
 use Rattle.definitions.specs.Instr.{Instr, size}
 use Rattle.definitions.specs.Code.{unmarked}
 use Rattle.definitions.specs.Resolve.{inRange, word, distanceOf, resolveField, resolveRecord, resolveRecords}
-use Rattle.landing.specs.Landed.{left, filledField, filled, Far, orElse, farField, firstFar, unlessFar, allNear, isMade, CarriedIn, Carried}
+use Rattle.landing.specs.Landed.{filledField, filled, Far, orElse, farField, firstFar, farDistance, firstOut, unlessFar, allNear, isMade, CarriedIn, Carried}
 use Rattle.landing.proofs.Pieces.{also, carried}
 use Rattle.landing.proofs.Starts.{distances, left-also}
 
@@ -24,7 +23,7 @@ use Rattle.landing.proofs.Starts.{distances, left-also}
 abbrev markIn : (marks : List ℕ) → ℕ → ℕ
 markIn marks l = getD marks l unmarked
 
-range-far : (k x : ℕ) (d : ℤ) (b : Bool) → checked b 32 k x (made (word d)) ≡ unlessFar (cond b none (some (record { place = k; extra = x }))) (word d)
+range-far : (k x : ℕ) (d : ℤ) (b : Bool) → checked b 32 k x (made (word d)) ≡ unlessFar (cond b none (some (record { place = k; extra = x; distance = d }))) (word d)
 unfolding checked unlessFar
 range-far k x d true = refl
 range-far k x d false = refl
@@ -112,7 +111,7 @@ near-field : (b : Bool) (k x : ℕ) (d : ℤ) (ds : List ℤ) → isNear (farFie
 unfolding farField also allNear isNear
 near-field true k x d ds = go (inRange d)
   where
-    go : (b : Bool) → isNear (cond b none (some (record { place = k; extra = x }))) && allNear ds ≡ b && allNear ds
+    go : (b : Bool) → isNear (cond b none (some (record { place = k; extra = x; distance = d }))) && allNear ds ≡ b && allNear ds
     go true = refl
     go false = refl
 near-field false k x d ds = refl
@@ -140,3 +139,27 @@ near-all M o k (i ∷ is) =
 -- a listing resolves exactly if each of its distances fits
 pub resolves-near : (M : ℕ → ℕ) (is : List Instr) → isMade (unlessFar (firstFar 0 is (distances M 0 is)) (filled is (distances M 0 is))) ≡ allNear (distances M 0 is)
 resolves-near M is = made-near _ _ ∙ near-all M 0 0 is
+
+-- 5. The first that is too far
+
+-- of a field, before what is left
+out-field : (b : Bool) (k x : ℕ) (d : ℤ) (ds : List ℤ) (rest : Far) → farDistance rest ≡ firstOut ds → farDistance (orElse (farField b k x (also b d ds)) rest) ≡ firstOut (also b d ds)
+unfolding farField also orElse firstOut farDistance
+out-field true k x d ds rest e = go (inRange d)
+  where
+    go : (b : Bool) → farDistance (orElse (cond b none (some (record { place = k; extra = x; distance = d }))) rest) ≡ cond b (firstOut ds) (some d)
+    go true = e
+    go false = refl
+out-field false k x d ds rest e = e
+
+pub first-out : (M : ℕ → ℕ) (o k : ℕ) (is : List Instr) → farDistance (firstFar k is (distances M o is)) ≡ firstOut (distances M o is)
+unfolding firstFar distances carried farDistance firstOut
+first-out M o k [] = refl
+first-out M o k (i ∷ is) =
+    let ds = distances M (o + size i) is in
+    let f = rowOf (i .tag) .first in
+    let s = rowOf (i .tag) .second in
+    let d = subℕ (M (i .first)) o in
+    let e = subℕ (M (i .second)) o in
+    rw (left-also f d (also s e ds), left-also s e ds)
+    (out-field f k 0 d (also s e ds) _ (out-field s k 1 e ds (firstFar (suc k) is ds) (first-out M (o + size i) (suc k) is)))

@@ -1,24 +1,24 @@
 -- The rules by which the judgement of a construct follows the text of what it emits.
 use Prim.Native.Nat.{ℕ, zero, suc, _+_, _<_, _≤_}
-use mathlib.Core.Path.{_≡_, refl, sym, _∙_, subst}
+use mathlib.Core.Path.{_≡_, refl, _∙_, subst}
 use mathlib.Core.List.{List, [], _∷_, _++_, append-nil}
-use mathlib.Core.Bool.{Bool, true, false, cond, _&&_, not}
+use mathlib.Core.Bool.{Bool, true, false, cond}
 use native.Mathlib.Omega.{arith}
 use native.Mathlib.Nat.{add-assoc, add-zero}
 use native.Mathlib.Numerals.{add-one}
-use lib.Dec.{T, ltb→lt}
-use lib.ListN.{getD, length}
-use lib.IntN.{ℤ, pos}
-use Rattle.definitions.specs.Tag.{rowOf}
-use Rattle.definitions.specs.Instr.{Instr, size}
+use lib.Dec.{ltb→lt}
+use lib.ListN.{length}
+use lib.IntN.{ℤ}
+use Rattle.definitions.specs.Tag.{rowOf, tagSize}
+use Rattle.definitions.specs.Instr.{Instr}
 use Rattle.definitions.specs.Code.{Action, Code, mark, emit, refuse, done, act, _then_, label, many, emits}
 use Rattle.definitions.specs.Lower.{require}
 use Rattle.definitions.specs.Resolve.{inRange}
-use Rattle.definitions.specs.Stage.{totalSize}
-use Rattle.laws.proofs.Tables.{every, at}
+use Rattle.laws.proofs.Sizes.{size-is, tagTotal}
 use Rattle.landing.specs.Distance.{ahead, back}
-use Rattle.landing.specs.Landed.{NotBelow}
-use Rattle.landing.proofs.Pieces.{actions, news, records, total, also, carried, dists, Agrees, Scoped, hit, hits, count, Backs, Piece, news-append, total-append, records-append, count-append, hits-append, scoped-append, dists-append, backs-append, agrees-left, agrees-right, below-suc, sub-ahead, sub-back, back-one}
+use Rattle.landing.specs.Landed.{NotBelow, Each}
+use Rattle.landing.specs.Walk.{news, actions}
+use Rattle.landing.proofs.Pieces.{records, total, also, carried, dists, Agrees, Scoped, hit, hits, count, Backs, Piece, news-append, total-append, records-append, count-append, hits-append, scoped-append, dists-append, backs-append, agrees-left, agrees-right, below-suc, sub-ahead, sub-back, back-one}
 
 -- which labels the records of a tag carry
 abbrev pub Carries : (tag : ℕ) (first second : Bool) → Type 0
@@ -27,43 +27,46 @@ Carries t f s = (rowOf t .first ≡ f) × (rowOf t .second ≡ s)
 module _ {M : ℕ → ℕ} {o n : ℕ} where
   pub nothing : Piece M o n done 0 0 [] [] Unit Unit Unit Unit []
   unfolding actions count news records Scoped total dists Backs
-  nothing = record { once = λ l. rw (add-zero n) (omega arith); scoped = λ c. tt; sized = λ a. refl; counted = λ a. refl; given = λ a. tt; lands = λ a h. refl; backs = λ a h. tt }
+  nothing = record { once = λ l. rw (add-zero n) (omega arith); scoped = λ c. tt; sized = λ a. refl; counted = λ a. refl; most = omega arith; given = λ a. tt; lands = λ a h. refl; backs = λ a h. tt }
 
-  pub plain : {i : Instr} → Carries (i .tag) false false → Piece M o n (act (emit i)) (size i) 1 [] [] Unit Unit Unit Unit []
+  pub plain : {i : Instr} → Carries (i .tag) false false → Piece M o n (act (emit i)) (tagSize (i .tag)) 1 [] [] Unit Unit Unit Unit []
   unfolding actions count news records Scoped total dists carried also Backs
-  plain e = record { once = λ l. rw (add-zero n) (omega arith); scoped = λ c. tt; sized = λ a. omega arith; counted = λ a. refl; given = λ a. tt; lands = λ a h. rw (e .0, e .1); backs = λ a h. tt }
+  plain {i} e = record { once = λ l. rw (add-zero n) (omega arith); scoped = λ c. tt; sized = λ a. omega (arith, size-is i); counted = λ a. refl; most = omega (arith, size-is i); given = λ a. tt; lands = λ a h. rw (e .0, e .1); backs = λ a h. tt }
 
-  pub carry : {i : Instr} {a : ℕ} → Carries (i .tag) true false → Piece M o n (act (emit i)) (size i) 1 [] [] Unit (M (i .first) ≡ o + a) Unit Unit (ahead a ∷ [])
+  pub carry : {i : Instr} {a : ℕ} → Carries (i .tag) true false → Piece M o n (act (emit i)) (tagSize (i .tag)) 1 [] [] Unit (M (i .first) ≡ o + a) Unit Unit (ahead a ∷ [])
   unfolding actions count news records Scoped total dists carried also Backs NotBelow
   carry {i} {a} e = record {
     once = λ l. rw (add-zero n) (omega arith);
     scoped = λ c. tt;
-    sized = λ a. omega arith;
+    sized = λ a. omega (arith, size-is i);
     counted = λ a. refl;
+    most = omega (arith, size-is i);
     given = λ a. tt;
     lands = λ g h. rw (e .0, e .1, sub-ahead (M (i .first)) o a h);
     backs = λ g h. (tt, λ t. tt);
   }
 
-  pub carryBack : {i : Instr} (a : ℕ) → Carries (i .tag) true false → Piece M o n (act (emit i)) (size i) 1 [] [] Unit (M (i .first) + a ≡ o) Unit (a ≤ 32764) (back a ∷ [])
+  pub carryBack : {i : Instr} (a : ℕ) → Carries (i .tag) true false → Piece M o n (act (emit i)) (tagSize (i .tag)) 1 [] [] Unit (M (i .first) + a ≡ o) Unit (a ≤ 32764) (back a ∷ [])
   unfolding actions count news records Scoped total dists carried also Backs
   carryBack {i} a e = record {
     once = λ l. rw (add-zero n) (omega arith);
     scoped = λ c. tt;
-    sized = λ a. omega arith;
+    sized = λ a. omega (arith, size-is i);
     counted = λ a. refl;
+    most = omega (arith, size-is i);
     given = λ a. tt;
     lands = λ g h. rw (e .0, e .1, sub-back (M (i .first)) o a h);
     backs = λ g h. (back-one a h, λ t. tt);
   }
 
-  pub carry2 : {i : Instr} {a b : ℕ} → Carries (i .tag) true true → Piece M o n (act (emit i)) (size i) 1 [] [] Unit ((M (i .first) ≡ o + a) × (M (i .second) ≡ o + b)) Unit Unit (ahead a ∷ ahead b ∷ [])
+  pub carry2 : {i : Instr} {a b : ℕ} → Carries (i .tag) true true → Piece M o n (act (emit i)) (tagSize (i .tag)) 1 [] [] Unit ((M (i .first) ≡ o + a) × (M (i .second) ≡ o + b)) Unit Unit (ahead a ∷ ahead b ∷ [])
   unfolding actions count news records Scoped total dists carried also Backs NotBelow
   carry2 {i} {a} {b} e = record {
     once = λ l. rw (add-zero n) (omega arith);
     scoped = λ c. tt;
-    sized = λ a. omega arith;
+    sized = λ a. omega (arith, size-is i);
     counted = λ a. refl;
+    most = omega (arith, size-is i);
     given = λ a. tt;
     lands = λ g h. rw (e .0, e .1, sub-ahead (M (i .first)) o a (h .0), sub-ahead (M (i .second)) o b (h .1));
     backs = λ g h. (tt, λ t. (tt, λ t. tt));
@@ -71,11 +74,11 @@ module _ {M : ℕ → ℕ} {o n : ℕ} where
 
   pub marks : {l : ℕ} → Piece M o n (act (mark l)) 0 0 [] (l ∷ []) (l < n) Unit (M l ≡ o) Unit []
   unfolding actions count news records Scoped total dists Agrees Backs
-  marks = record { once = λ l. rw (add-zero n) (omega arith); scoped = λ c. (c, tt); sized = λ a. refl; counted = λ a. refl; given = λ a. a .0; lands = λ a h. refl; backs = λ a h. tt }
+  marks = record { once = λ l. rw (add-zero n) (omega arith); scoped = λ c. (c, tt); sized = λ a. refl; counted = λ a. refl; most = omega arith; given = λ a. a .0; lands = λ a h. refl; backs = λ a h. tt }
 
   pub refuses : {c p x s k : ℕ} {ds : List ℤ} → Piece M o n (act (refuse c p x)) s k [] [] Unit Unit Unit Unit ds
-  unfolding actions count news records Scoped Agrees
-  refuses = record { once = λ l. rw (add-zero n) (omega arith); scoped = λ c. tt; sized = λ a. absurd a; counted = λ a. absurd a; given = λ a. tt; lands = λ a h. absurd a; backs = λ a h. absurd a }
+  unfolding actions count news records Scoped total Agrees
+  refuses = record { once = λ l. rw (add-zero n) (omega arith); scoped = λ c. tt; sized = λ a. absurd a; counted = λ a. absurd a; most = omega arith; given = λ a. tt; lands = λ a h. absurd a; backs = λ a h. absurd a }
 
   pub labels : {at s c : ℕ} {k : ℕ → Code} {made marked : List ℕ} {S H G R : Type 0} {ds : List ℤ} →
       Piece M o (n + 1) (k n) s c made marked S H G R ds → Piece M o n (label at k) s c (n ∷ made) marked S H G R ds
@@ -85,6 +88,7 @@ module _ {M : ℕ → ℕ} {o n : ℕ} where
     scoped = r .scoped;
     sized = r .sized;
     counted = r .counted;
+    most = r .most;
     given = r .given;
     lands = r .lands;
     backs = r .backs;
@@ -103,6 +107,7 @@ module _ {M : ℕ → ℕ} {o n : ℕ} where
         scoped = λ c. scoped-append n P Q (f .scoped (c .0)) (g .scoped (c .1));
         sized = λ a. omega (arith, total-append P Q, f .sized (agrees-left M o P Q a), g .sized (right a));
         counted = λ a. omega (arith, records-append P Q, f .counted (agrees-left M o P Q a), g .counted (right a));
+        most = omega (arith, total-append P Q, records-append P Q, f .most, g .most);
         given = λ a. (f .given (agrees-left M o P Q a), g .given (right a));
         lands = λ a h. rw (dists-append M o P Q, f .sized (agrees-left M o P Q a), f .lands (agrees-left M o P Q a) (h .0), g .lands (right a) (h .1));
         backs = λ a r. backs-append ds es (f .backs (agrees-left M o P Q a) (r .0)) (g .backs (right a) (r .1));
@@ -120,6 +125,7 @@ module _ {M : ℕ → ℕ} {o n : ℕ} where
         scoped = r .scoped;
         sized = λ a. omega (arith, r .sized a);
         counted = λ a. omega (arith, r .counted a);
+        most = omega (arith, r .most);
         given = r .given;
         lands = λ a h. r .lands a (h, tt) ∙ append-nil ds;
         backs = λ a h. subst Backs (append-nil ds) (r .backs a (h, tt));
@@ -135,6 +141,7 @@ module _ {M : ℕ → ℕ} {o n : ℕ} where
     scoped = λ x. f .scoped (c .0 x);
     sized = λ a. f .sized a ∙ c .4;
     counted = λ a. f .counted a ∙ c .5;
+    most = omega (arith, f .most, c .4, c .5);
     given = λ a. c .2 (f .given a);
     lands = λ a h. f .lands a (c .1 h (f .given a)) ∙ e;
     backs = λ a r. subst Backs e (f .backs a (c .6 r));
@@ -149,6 +156,7 @@ module _ {M : ℕ → ℕ} {o n : ℕ} where
     scoped = f .scoped;
     sized = f .sized;
     counted = f .counted;
+    most = f .most;
     given = f .given;
     lands = f .lands;
     backs = λ g r. (tt, λ t. f .backs g (k r (ltb→lt a 32768 t)) .1 t);
@@ -160,7 +168,7 @@ module _ {M : ℕ → ℕ} {o n : ℕ} where
       Piece M o n (p then q) (s + t) (c + d) (made ++ made′) (marked ++ marked′) (S × S′) (H × H′) (G × G′) (R × R′) ds
   last {ds} f g =
       let r = seq f g in
-      record { once = r .once; scoped = r .scoped; sized = r .sized; counted = r .counted; given = r .given; lands = λ a h. r .lands a h ∙ append-nil ds; backs = λ a h. subst Backs (append-nil ds) (r .backs a h) }
+      record { once = r .once; scoped = r .scoped; sized = r .sized; counted = r .counted; most = r .most; given = r .given; lands = λ a h. r .lands a h ∙ append-nil ds; backs = λ a h. subst Backs (append-nil ds) (r .backs a h) }
 
   -- a mark before the rest
   pub here : {q : Code} {l s c : ℕ} {made marked : List ℕ} {S H G R : Type 0} {ds : List ℤ} →
@@ -172,6 +180,7 @@ module _ {M : ℕ → ℕ} {o n : ℕ} where
     scoped = λ c. (c .0, rw (add-zero n) (f .scoped (c .1)));
     sized = λ a. rw (add-zero n) (f .sized (rw (add-zero n) at (a .1)));
     counted = λ a. rw (add-zero n) (f .counted (rw (add-zero n) at (a .1)));
+    most = rw (add-zero n) (f .most);
     given = λ a. (a .0, f .given (rw (add-zero n) at (a .1)));
     lands = λ a h. rw (add-zero n) (f .lands (rw (add-zero n) at (a .1)) h);
     backs = λ a h. f .backs (rw (add-zero n) at (a .1)) h;
@@ -205,31 +214,13 @@ Whole M o n p s c ds = Piece M o n p s c [] [] Unit Unit Unit Unit ds
 
 -- records without labels
 
-unfoldable pub isPlain : (tag : ℕ) → Bool
-isPlain t = not (rowOf t .first) && not (rowOf t .second)
-
-pub plain-carries : (t : ℕ) → T (isPlain t) → Carries t false false
-unfolding isPlain
-plain-carries t h = go (rowOf t .first) (rowOf t .second) h
-  where
-    go : (f s : Bool) → T (not f && not s) → (f ≡ false) × (s ≡ false)
-    go true s h = absurd h
-    go false true h = absurd h
-    go false false h = (refl, refl)
-
--- of a table of tags
-pub plain-at : (ts : List ℕ) (d : ℕ) → T (every isPlain ts) → T (isPlain d) → (k : ℕ) → T (isPlain (getD ts k d))
-plain-at ts d h e k = at isPlain ts d h e k
-
--- of a list of records
 abbrev pub AllPlain : List Instr → Type 0
-AllPlain [] = Unit
-AllPlain (i ∷ is) = T (isPlain (i .tag)) × AllPlain is
+AllPlain is = Each (λ i. Carries (i .tag) false false) is
 
-pub straight : {M : ℕ → ℕ} {o n : ℕ} (is : List Instr) → AllPlain is → Whole M o n (emits is) (totalSize is) (length is) []
-unfolding emits totalSize
+pub straight : {M : ℕ → ℕ} {o n : ℕ} (is : List Instr) → AllPlain is → Whole M o n (emits is) (tagTotal is) (length is) []
+unfolding emits
 straight [] h = nothing
-straight (i ∷ is) h = close (seq (plain (plain-carries (i .tag) (h .0))) (straight is (h .1))) refl (omega arith)
+straight (i ∷ is) h = close (seq (plain (h .0)) (straight is (h .1))) refl (omega arith)
 
 pub requires : {M : ℕ → ℕ} {o n : ℕ} (b : Bool) (number place extra : ℕ) → Whole M o n (require b number place extra) 0 0 []
 unfolding require

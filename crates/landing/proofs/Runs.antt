@@ -1,177 +1,157 @@
 -- What running a unit's code leaves.
-use Prim.Native.Nat.{ℕ, zero, suc, _+_, _<_, _≤_}
+use Prim.Native.Nat.{ℕ, _+_, _<_, _≤_}
 use mathlib.Core.Path.{_≡_, refl, sym, _∙_, ap}
 use mathlib.Core.List.{List, [], _∷_, _++_, append-assoc, append-nil}
 use mathlib.Core.Bool.{Bool, true, false}
 use native.Mathlib.Omega.{arith}
 use native.Mathlib.Decide.{decLt}
-use native.Mathlib.Nat.{add-assoc, add-zero}
 use lib.Dec.{ltb}
-use lib.ListN.{length, getD, set, length-set, length-append, List·getD-append}
+use lib.ListN.{length, getD, length-set, length-append, List·getD-append}
 use lib.Seq.{getD-set-same, getD-set-other}
-use lib.IntN.{ℤ}
 use borrow.Author.Tests.{ltb-true}
+use Rattle.definitions.specs.Answer.{Result, made, refusal, onward, checked}
 use Rattle.definitions.specs.Tree.{Script}
-use Rattle.definitions.specs.Instr.{Instr, size}
-use Rattle.definitions.specs.Code.{Action, new, mark, emit, refuse, Code, done, act, _then_, label, State, Outcome, going, stopped, step, andThen, execute, start, unmarked, labelLimit}
+use Rattle.definitions.specs.Code.{Action, new, mark, emit, refuse, Code, done, act, _then_, label, State, newLabel, markLabel, emitRecord, step, execute, start, unmarked, labelLimit}
 use Rattle.definitions.specs.Lower.{outside, codeOf, lower}
+use Rattle.laws.proofs.Inversion.{refusal-not-made}
 use Rattle.landing.specs.Distance.{sizeOf, distancesOf}
-use Rattle.landing.proofs.Pieces.{news, actions, records, total, dists, Agrees, Scoped, hit, count, below, Piece, hit-yes, below-yes, below-no}
-use Rattle.landing.proofs.Counts.{countB}
-use Rattle.landing.proofs.Stmts.{landB}
+use Rattle.landing.specs.Walk.{news, actions, actionsOf, exec}
+use Rattle.landing.proofs.Pieces.{records, total, dists, Agrees, Scoped, hit, count, below, Piece, hit-yes, below-yes, below-no}
+use Rattle.landing.proofs.Counts.{countBlock}
+use Rattle.landing.proofs.Stmts.{landBlock}
 
 -- 1. A list of actions, run one after another
 
-unfoldable pub exec : List Action → State → Outcome
-exec [] s = going s
-exec (a ∷ acts) s = andThen (step a s) (exec acts)
-
--- the states after a label is made, after a mark, after a record
-abbrev after-new : State → State
-after-new s = record { offset = s .offset; instrs = s .instrs; marks = s .marks ++ (unmarked ∷ []) }
-
-abbrev after-mark : ℕ → State → State
-after-mark l s = record { offset = s .offset; instrs = s .instrs; marks = set (s .marks) l (s .offset) }
-
-abbrev after-emit : Instr → State → State
-after-emit i s = record { offset = s .offset + size i; instrs = s .instrs ++ (i ∷ []); marks = s .marks }
-
 -- a label was made, so there was room for it, and the rest was run after it
-made : (acts : List Action) (b : Bool) (t s′ : State) (at : ℕ) → andThen (elim b [ true ↦ going t | false ↦ stopped 15 at 0 ]) (exec acts) ≡ going s′ → (exec acts t ≡ going s′) × (b ≡ true)
-unfolding andThen
-made acts true t s′ at e = (e, refl)
-made acts false t s′ at e = let z : _≡_ {A = ℕ} 0 1 = cc in absurd (omega arith)
+had-room : (acts : List Action) (b : Bool) (t s′ : State) (at : ℕ) → onward (checked b 15 at 0 (made t)) (exec acts) ≡ made s′ → (exec acts t ≡ made s′) × (b ≡ true)
+unfolding onward checked
+had-room acts true t s′ at e = (e, refl)
+had-room acts false t s′ at e = refusal-not-made e
 
-exec-new : (acts : List Action) (s s′ : State) (at : ℕ) → exec (new at ∷ acts) s ≡ going s′ → (exec acts (after-new s) ≡ going s′) × (length (s .marks) < labelLimit)
+pub exec-new : (acts : List Action) (s s′ : State) (at : ℕ) → exec (new at ∷ acts) s ≡ made s′ → (exec acts (newLabel s) ≡ made s′) × (length (s .marks) < labelLimit)
 unfolding exec step
 exec-new acts s s′ at e =
-    let r = made acts (ltb (length (s .marks)) labelLimit) (after-new s) s′ at e in
+    let r = had-room acts (ltb (length (s .marks)) labelLimit) (newLabel s) s′ at e in
     (r .0, ltb-true (length (s .marks)) labelLimit (r .1))
 
-never : {A : Type 0} (n p x : ℕ) (s : State) → stopped n p x ≡ going s → A
-never n p x s e = let z : _≡_ {A = ℕ} 0 1 = cc in absurd (omega arith)
-
 -- one label more
-longer : (s : State) → length (after-new s .marks) ≡ length (s .marks) + 1
+pub longer : (s : State) → length (newLabel s .marks) ≡ length (s .marks) + 1
 longer s = length-append (s .marks) (unmarked ∷ [])
 
-pub exec-labels : (acts : List Action) (s s′ : State) → exec acts s ≡ going s′ → length (s′ .marks) ≡ length (s .marks) + news acts
-unfolding exec step andThen news
+pub exec-labels : (acts : List Action) (s s′ : State) → exec acts s ≡ made s′ → length (s′ .marks) ≡ length (s .marks) + news acts
+unfolding exec step onward news
 exec-labels [] s s′ e = let h : s′ .marks ≡ s .marks = cc in rw h (omega arith)
-exec-labels (new at ∷ acts) s s′ e = omega (arith, exec-labels acts (after-new s) s′ (exec-new acts s s′ at e .0), longer s)
-exec-labels (mark l ∷ acts) s s′ e = omega (arith, exec-labels acts (after-mark l s) s′ e, length-set (s .marks) l (s .offset))
-exec-labels (emit i ∷ acts) s s′ e = exec-labels acts (after-emit i s) s′ e
-exec-labels (refuse n p x ∷ acts) s s′ e = never n p x s′ e
+exec-labels (new at ∷ acts) s s′ e = omega (arith, exec-labels acts (newLabel s) s′ (exec-new acts s s′ at e .0), longer s)
+exec-labels (mark l ∷ acts) s s′ e = omega (arith, exec-labels acts (markLabel l s) s′ e, length-set (s .marks) l (s .offset))
+exec-labels (emit i ∷ acts) s s′ e = exec-labels acts (emitRecord i s) s′ e
+exec-labels (refuse n p x ∷ acts) s s′ e = refusal-not-made e
 
 -- the labels stay within their limit
-pub exec-limit : (acts : List Action) (s s′ : State) → exec acts s ≡ going s′ → length (s .marks) ≤ labelLimit → length (s′ .marks) ≤ labelLimit
-unfolding exec step andThen
+pub exec-limit : (acts : List Action) (s s′ : State) → exec acts s ≡ made s′ → length (s .marks) ≤ labelLimit → length (s′ .marks) ≤ labelLimit
+unfolding exec step onward
 exec-limit [] s s′ e h = let m : s′ .marks ≡ s .marks = cc in rw m h
-exec-limit (new at ∷ acts) s s′ e h = let r = exec-new acts s s′ at e in exec-limit acts (after-new s) s′ (r .0) (omega (arith, r .1, longer s))
-exec-limit (mark l ∷ acts) s s′ e h = exec-limit acts (after-mark l s) s′ e (omega (arith, length-set (s .marks) l (s .offset)))
-exec-limit (emit i ∷ acts) s s′ e h = exec-limit acts (after-emit i s) s′ e h
-exec-limit (refuse n p x ∷ acts) s s′ e h = never n p x s′ e
+exec-limit (new at ∷ acts) s s′ e h = let r = exec-new acts s s′ at e in exec-limit acts (newLabel s) s′ (r .0) (omega (arith, r .1, longer s))
+exec-limit (mark l ∷ acts) s s′ e h = exec-limit acts (markLabel l s) s′ e (omega (arith, length-set (s .marks) l (s .offset)))
+exec-limit (emit i ∷ acts) s s′ e h = exec-limit acts (emitRecord i s) s′ e h
+exec-limit (refuse n p x ∷ acts) s s′ e h = refusal-not-made e
 
 -- the records and their size are those of the actions
-pub exec-records : (acts : List Action) (s s′ : State) → exec acts s ≡ going s′ → s′ .instrs ≡ s .instrs ++ records acts
-unfolding exec step andThen records
+pub exec-records : (acts : List Action) (s s′ : State) → exec acts s ≡ made s′ → s′ .instrs ≡ s .instrs ++ records acts
+unfolding exec step onward records
 exec-records [] s s′ e = let h : s′ .instrs ≡ s .instrs = cc in h ∙ sym (append-nil (s .instrs))
-exec-records (new at ∷ acts) s s′ e = exec-records acts (after-new s) s′ (exec-new acts s s′ at e .0)
-exec-records (mark l ∷ acts) s s′ e = exec-records acts (after-mark l s) s′ e
-exec-records (emit i ∷ acts) s s′ e = exec-records acts (after-emit i s) s′ e ∙ append-assoc (s .instrs) (i ∷ []) (records acts)
-exec-records (refuse n p x ∷ acts) s s′ e = never n p x s′ e
+exec-records (new at ∷ acts) s s′ e = exec-records acts (newLabel s) s′ (exec-new acts s s′ at e .0)
+exec-records (mark l ∷ acts) s s′ e = exec-records acts (markLabel l s) s′ e
+exec-records (emit i ∷ acts) s s′ e = exec-records acts (emitRecord i s) s′ e ∙ append-assoc (s .instrs) (i ∷ []) (records acts)
+exec-records (refuse n p x ∷ acts) s s′ e = refusal-not-made e
 
-pub exec-offset : (acts : List Action) (s s′ : State) → exec acts s ≡ going s′ → s′ .offset ≡ s .offset + total acts
-unfolding exec step andThen total
+pub exec-offset : (acts : List Action) (s s′ : State) → exec acts s ≡ made s′ → s′ .offset ≡ s .offset + total acts
+unfolding exec step onward total
 exec-offset [] s s′ e = let h : s′ .offset ≡ s .offset = cc in rw h (omega arith)
-exec-offset (new at ∷ acts) s s′ e = exec-offset acts (after-new s) s′ (exec-new acts s s′ at e .0)
-exec-offset (mark l ∷ acts) s s′ e = exec-offset acts (after-mark l s) s′ e
-exec-offset (emit i ∷ acts) s s′ e = omega (arith, exec-offset acts (after-emit i s) s′ e)
-exec-offset (refuse n p x ∷ acts) s s′ e = never n p x s′ e
+exec-offset (new at ∷ acts) s s′ e = exec-offset acts (newLabel s) s′ (exec-new acts s s′ at e .0)
+exec-offset (mark l ∷ acts) s s′ e = exec-offset acts (markLabel l s) s′ e
+exec-offset (emit i ∷ acts) s s′ e = omega (arith, exec-offset acts (emitRecord i s) s′ e)
+exec-offset (refuse n p x ∷ acts) s s′ e = refusal-not-made e
 
 -- a label that is there already and is not marked keeps its mark
-keeps : (l d : ℕ) (acts : List Action) (s s′ : State) → exec acts s ≡ going s′ → l < length (s .marks) → count l acts ≡ 0 → getD (s′ .marks) l d ≡ getD (s .marks) l d
-unfolding exec step andThen count
+keeps : (l d : ℕ) (acts : List Action) (s s′ : State) → exec acts s ≡ made s′ → l < length (s .marks) → count l acts ≡ 0 → getD (s′ .marks) l d ≡ getD (s .marks) l d
+unfolding exec step onward count
 keeps l d [] s s′ e h c = let m : s′ .marks ≡ s .marks = cc in rw m
 keeps l d (new at ∷ acts) s s′ e h c =
-    keeps l d acts (after-new s) s′ (exec-new acts s s′ at e .0) (omega (arith, longer s)) c ∙ List·getD-append (s .marks) (unmarked ∷ []) d l h
+    keeps l d acts (newLabel s) s′ (exec-new acts s s′ at e .0) (omega (arith, longer s)) c ∙ List·getD-append (s .marks) (unmarked ∷ []) d l h
 keeps l d (mark k ∷ acts) s s′ e h c =
-    keeps l d acts (after-mark k s) s′ e (omega (arith, length-set (s .marks) k (s .offset))) (omega arith)
+    keeps l d acts (markLabel k s) s′ e (omega (arith, length-set (s .marks) k (s .offset))) (omega arith)
     ∙ getD-set-other (s .marks) k l (s .offset) d (λ q. absurd (let z : hit k l ≡ 1 = rw q (hit-yes k) in omega arith))
-keeps l d (emit i ∷ acts) s s′ e h c = keeps l d acts (after-emit i s) s′ e h c
-keeps l d (refuse n p x ∷ acts) s s′ e h c = never n p x s′ e
+keeps l d (emit i ∷ acts) s s′ e h c = keeps l d acts (emitRecord i s) s′ e h c
+keeps l d (refuse n p x ∷ acts) s s′ e h c = refusal-not-made e
 
 -- the final marks hold what each mark sets
-pub exec-agrees : (d : ℕ) (acts : List Action) (s s′ : State) → exec acts s ≡ going s′ → ((l : ℕ) → count l acts ≤ 1) → Scoped (length (s .marks)) acts →
+pub exec-agrees : (d : ℕ) (acts : List Action) (s s′ : State) → exec acts s ≡ made s′ → ((l : ℕ) → count l acts ≤ 1) → Scoped (length (s .marks)) acts →
     Agrees (λ l. getD (s′ .marks) l d) (s .offset) acts
-unfolding exec step andThen count Scoped Agrees
+unfolding exec step onward count Scoped Agrees
 exec-agrees d [] s s′ e once sc = tt
-exec-agrees d (new at ∷ acts) s s′ e once sc = exec-agrees d acts (after-new s) s′ (exec-new acts s s′ at e .0) once (rw (longer s) sc)
+exec-agrees d (new at ∷ acts) s s′ e once sc = exec-agrees d acts (newLabel s) s′ (exec-new acts s s′ at e .0) once (rw (longer s) sc)
 exec-agrees d (mark l ∷ acts) s s′ e once sc =
     let same = length-set (s .marks) l (s .offset) in (
-      keeps l d acts (after-mark l s) s′ e (omega (arith, same, sc .0)) (omega (arith, once l, hit-yes l)) ∙ getD-set-same (s .marks) l (s .offset) d (sc .0),
-      exec-agrees d acts (after-mark l s) s′ e (λ k. omega (arith, once k)) (rw same (sc .1)),
+      keeps l d acts (markLabel l s) s′ e (omega (arith, same, sc .0)) (omega (arith, once l, hit-yes l)) ∙ getD-set-same (s .marks) l (s .offset) d (sc .0),
+      exec-agrees d acts (markLabel l s) s′ e (λ k. omega (arith, once k)) (rw same (sc .1)),
     )
-exec-agrees d (emit i ∷ acts) s s′ e once sc = exec-agrees d acts (after-emit i s) s′ e once sc
-exec-agrees d (refuse n p x ∷ acts) s s′ e once sc = never n p x s′ e
+exec-agrees d (emit i ∷ acts) s s′ e once sc = exec-agrees d acts (emitRecord i s) s′ e once sc
+exec-agrees d (refuse n p x ∷ acts) s s′ e once sc = refusal-not-made e
 
 -- 2. Running a piece is running its actions
 
-andThen-going : (r : Outcome) → andThen r (λ s. going s) ≡ r
-unfolding andThen
-andThen-going (going s) = refl
-andThen-going (stopped n p x) = refl
+onward-made : (r : Result State) → onward r (λ s. made s) ≡ r
+unfolding onward
+onward-made (made s) = refl
+onward-made (refusal n p x) = refl
 
-after-both : (r : Outcome) (f g h : State → Outcome) → ((t : State) → h t ≡ andThen (f t) g) → andThen r h ≡ andThen (andThen r f) g
-unfolding andThen
-after-both (going t) f g h e = e t
-after-both (stopped n p x) f g h e = refl
+after-both : (r : Result State) (f g h : State → Result State) → ((t : State) → h t ≡ onward (f t) g) → onward r h ≡ onward (onward r f) g
+unfolding onward
+after-both (made t) f g h e = e t
+after-both (refusal n p x) f g h e = refl
 
-exec-append : (a b : List Action) (s : State) → exec (a ++ b) s ≡ andThen (exec a s) (exec b)
-unfolding exec andThen
+exec-append : (a b : List Action) (s : State) → exec (a ++ b) s ≡ onward (exec a s) (exec b)
+unfolding exec onward
 exec-append [] b s = refl
 exec-append (x ∷ a) b s = after-both (step x s) (exec a) (exec b) (exec (a ++ b)) (λ t. exec-append a b t)
 
 -- both go on alike, where the rest is the same after each state that may come
-andThen-same : (r : Outcome) (f g : State → Outcome) → ((t : State) → r ≡ going t → f t ≡ g t) → andThen r f ≡ andThen r g
-unfolding andThen
-andThen-same (going t) f g h = h t refl
-andThen-same (stopped n p x) f g h = refl
+onward-same : (r : Result State) (f g : State → Result State) → ((t : State) → r ≡ made t → f t ≡ g t) → onward r f ≡ onward r g
+unfolding onward
+onward-same (made t) f g h = h t refl
+onward-same (refusal n p x) f g h = refl
 
-made-one : (at : ℕ) (s t : State) → step (new at) s ≡ going t → length (t .marks) ≡ length (s .marks) + 1
+made-one : (at : ℕ) (s t : State) → step (new at) s ≡ made t → length (t .marks) ≡ length (s .marks) + 1
 unfolding exec news
-made-one at s t e = exec-labels (new at ∷ []) s t (andThen-going (step (new at) s) ∙ e)
+made-one at s t e = exec-labels (new at ∷ []) s t (onward-made (step (new at) s) ∙ e)
 
 pub execute-actions : (p : Code) (s : State) → execute p s ≡ exec (actions p (length (s .marks))) s
 unfolding execute exec actions
 execute-actions done s = refl
-execute-actions (act a) s = sym (andThen-going (step a s))
+execute-actions (act a) s = sym (onward-made (step a s))
 execute-actions (p then q) s =
     let P = actions p (length (s .marks)) in
     rw (exec-append P (actions q (length (s .marks) + news P)) s, ← execute-actions p s)
-    (andThen-same (execute p s) _ _ (λ t e. execute-actions q t ∙ ap (λ n. exec (actions q n) t) (exec-labels P s t (sym (execute-actions p s) ∙ e))))
+    (onward-same (execute p s) _ _ (λ t e. execute-actions q t ∙ ap (λ n. exec (actions q n) t) (exec-labels P s t (sym (execute-actions p s) ∙ e))))
 execute-actions (label at k) s =
-    andThen-same (step (new at) s) _ _ (λ t e. execute-actions (k (length (s .marks))) t ∙ ap (λ n. exec (actions (k (length (s .marks))) n) t) (made-one at s t e))
+    onward-same (step (new at) s) _ _ (λ t e. execute-actions (k (length (s .marks))) t ∙ ap (λ n. exec (actions (k (length (s .marks))) n) t) (made-one at s t e))
 
 -- 3. A unit
 
 pub below-small : (n l : ℕ) → below n l ≤ 1
 below-small n l = elim (decLt l n) [ yes h ↦ omega (arith, below-yes n l h) | no h ↦ omega (arith, below-no n l (omega arith)) ]
 
-abbrev pub actionsOf : Script → List Action
-actionsOf u = actions (codeOf u) 0
-
 -- its block, in no loop
 pub whole : (M : ℕ → ℕ) (u : Script) →
-    Piece M 0 0 (codeOf u) (sizeOf u) (countB (u .body) (u .returns)) [] [] Unit ((0 + sizeOf u + 0 ≡ 0 + sizeOf u + 0) × (_≡_ {A = ℕ} (0 + 0) 0)) Unit (0 + sizeOf u ≤ sizeOf u) (distancesOf u)
-whole M u = landB (u .body) (outside (u .returns)) (0 + sizeOf u + 0) 0 (sizeOf u) 0 0 (record { onBreak = tt; onContinue = tt; limit = tt })
+    Piece M 0 0 (codeOf u) (sizeOf u) (countBlock (u .body) (u .returns)) [] [] Unit ((0 + sizeOf u + 0 ≡ 0 + sizeOf u + 0) × (_≡_ {A = ℕ} (0 + 0) 0)) Unit (0 + sizeOf u ≤ sizeOf u) (distancesOf u)
+whole M u = landBlock (u .body) (outside (u .returns)) (0 + sizeOf u + 0) 0 (sizeOf u) 0 0 (record { breakTarget = tt; continueTarget = tt; limit = tt })
 
 -- the mark of each label
 abbrev pub markOf : State → ℕ → ℕ
 markOf t l = getD (t .marks) l unmarked
 
-module _ (u : Script) (t : State) (e : lower u ≡ going t) where
-  ran : exec (actionsOf u) start ≡ going t
+module _ (u : Script) (t : State) (e : lower u ≡ made t) where
+  pub ran : exec (actionsOf u) start ≡ made t
   ran = sym (execute-actions (codeOf u) start) ∙ e
 
   pub labels-made : length (t .marks) ≡ 0 + news (actionsOf u)

@@ -1,14 +1,14 @@
 -- Each distance lands on the start of a record or on the end, and the label of each is marked.
 use Prim.Native.Nat.{ℕ, zero, suc, _+_, _-_, _<_, _≤_}
 use mathlib.Core.Path.{_≡_, refl, sym, _∙_, ap}
-use mathlib.Core.Logic.{_≢_, _⊎_, inl, inr}
-use mathlib.Core.List.{List, [], _∷_, _++_}
+use mathlib.Core.Logic.{_≢_, inl, inr}
+use mathlib.Core.List.{List, [], _∷_}
 use mathlib.Core.Bool.{Bool, true, false, cond}
 use native.Mathlib.Omega.{arith}
 use native.Mathlib.Decide.{decLt, ℕ-discrete}
-use lib.Dec.{eqb, ltb}
+use lib.Dec.{eqb}
 use borrow.Author.Tests.{lt-ltb, le-ltb, eq-eqb, ne-eqb}
-use lib.ListN.{length, take, drop, getD}
+use lib.ListN.{length, take}
 use lib.IntN.{ℤ, pos, negsuc, subℕ}
 use Rattle.definitions.specs.Tag.{rowOf}
 use Rattle.definitions.specs.Tree.{Script}
@@ -16,9 +16,10 @@ use Rattle.definitions.specs.Instr.{Instr, size}
 use Rattle.definitions.specs.Code.{Action, new, mark, emit, refuse}
 use Rattle.definitions.specs.Stage.{totalSize}
 use Rattle.landing.specs.Distance.{sizeOf, distancesOf}
-use Rattle.landing.specs.Landed.{left, carriers, Lands, FieldLands, AllLand, CarriedIn, Carried}
-use Rattle.landing.proofs.Pieces.{news, actions, records, total, also, carried, dists, below-no, Agrees, hit, count, hit-yes, hit-no}
-use Rattle.landing.proofs.Runs.{whole, actionsOf, lands-as}
+use Rattle.landing.specs.Landed.{left, labelFields, FieldLands, AllLand, CarriedIn, Carried}
+use Rattle.landing.specs.Walk.{news, actionsOf}
+use Rattle.landing.proofs.Pieces.{records, total, also, carried, dists, below-no, Agrees, hit, count, hit-yes, hit-no}
+use Rattle.landing.proofs.Runs.{whole, lands-as}
 
 -- 1. The distances that the records of a listing carry, where M gives each label's mark
 
@@ -41,11 +42,11 @@ left-also true d ds = refl
 left-also false d ds = refl
 
 -- there are as many as the records take
-pub distances-count : (M : ℕ → ℕ) (o : ℕ) (is : List Instr) → length (distances M o is) ≡ carriers is
-unfolding distances carriers carried also
+pub distances-count : (M : ℕ → ℕ) (o : ℕ) (is : List Instr) → length (distances M o is) ≡ labelFields is
+unfolding distances labelFields carried also
 distances-count M o [] = refl
 distances-count M o (i ∷ is) =
-    one (rowOf (i .tag) .first) (rowOf (i .tag) .second) _ _ (distances M (o + size i) is) (carriers is) (distances-count M (o + size i) is)
+    one (rowOf (i .tag) .first) (rowOf (i .tag) .second) _ _ (distances M (o + size i) is) (labelFields is) (distances-count M (o + size i) is)
   where
     one : (f s : Bool) (d e : ℤ) (ds : List ℤ) (n : ℕ) → length ds ≡ n → length (also f d (also s e ds)) ≡ cond f 1 0 + cond s 1 0 + n
     one true true d e ds n h = omega arith

@@ -1,35 +1,34 @@
 -- THE LANDING THEOREM: of every unit that is read and lowered, the listing resolves to the distances of document 01's landing table,
 -- which is computed from the tree alone. Assumes nothing.
-use Prim.Native.Nat.{ℕ, zero, suc, _+_, _-_, _*_, _<_, _≤_}
-use mathlib.Core.Path.{_≡_, refl, sym, _∙_, ap, subst}
-use mathlib.Core.Logic.{_≢_}
+use Prim.Native.Nat.{ℕ, _-_, _<_, _≤_}
+use mathlib.Core.Path.{_≡_, refl, sym, _∙_, ap}
 use mathlib.Core.List.{List, [], _∷_}
 use mathlib.Core.Bool.{Bool, true, false, cond, _&&_, true≢false}
-use mathlib.Core.Option.{Option, none, some}
+use mathlib.Core.Option.{some}
 use native.Mathlib.Omega.{arith}
-use lib.Dec.{T, ltb}
-use lib.ListN.{length, getD}
+use lib.Dec.{T}
+use lib.ListN.{length}
 use lib.IntN.{ℤ, pos, negsuc}
 use borrow.Author.Tests.{ltb-true, lt-ltb, le-ltb}
-use Rattle.definitions.specs.Answer.{ok, onward}
+use Rattle.definitions.specs.Answer.{ok, made, onward}
 use Rattle.definitions.specs.Tree.{Script}
 use Rattle.definitions.specs.Read.{parseUnit}
-use Rattle.definitions.specs.Instr.{Instr}
-use Rattle.definitions.specs.Code.{State, going, unmarked, labelLimit}
+use Rattle.definitions.specs.Code.{State, unmarked, labelLimit}
 use Rattle.definitions.specs.Lower.{lower}
-use Rattle.definitions.specs.Resolve.{inRange, word, signed, resolveRecords}
-use Rattle.definitions.specs.Stage.{totalSize, walked, lowered, stage}
+use Rattle.definitions.specs.Resolve.{inRange, word, signed}
+use Rattle.definitions.specs.Stage.{totalSize, lowered, stage}
 use Rattle.landing.specs.Distance.{sizeOf, distancesOf}
-use Rattle.landing.specs.Landed.{carriers, withDistances, allNear, isMade, AllLand, Carried, Landed, Bounded, NotBelow, Each, firstOut, Forward, Backward}
+use Rattle.landing.specs.Landed.{withDistances, allNear, isMade, Carried, Landed, Bounded, NotBelow, Each, firstOut, Forward, Backward}
+use Rattle.landing.specs.Walk.{actionsOf}
 use Rattle.landing.proofs.Pieces.{records, Agrees, Backs}
-use Rattle.landing.proofs.Runs.{whole, actionsOf, markOf, labels-made, labels-limit, listing, offset, agrees}
+use Rattle.landing.proofs.Runs.{whole, markOf, labels-made, labels-limit, listing, offset, agrees}
 use Rattle.landing.proofs.Starts.{distances, distances-count, size-total, recordsOf, unit-distances, unit-lands, unit-marked}
-use Rattle.landing.proofs.Resolving.{resolves-filled, resolves-near}
+use Rattle.landing.proofs.Resolving.{resolves-filled, first-out, resolves-near}
 use Rattle.landing.proofs.Paid.{unit-paid}
 
 -- 1. The theorem
 
-module _ (s : List ℕ) (u : Script) (next : ℕ) (read : parseUnit s ≡ ok u next) (t : State) (e : lower u ≡ going t) where
+module _ (s : List ℕ) (u : Script) (next : ℕ) (read : parseUnit s ≡ ok u next) (t : State) (e : lower u ≡ made t) where
   -- the listing that is named by the actions
   unit-landed : t .instrs ≡ recordsOf u → Landed u t
   unfolding withDistances unmarked
@@ -43,6 +42,7 @@ module _ (s : List ℕ) (u : Script) (next : ℕ) (read : parseUnit s ≡ ok u n
       let filled = resolves-filled (t .marks) 0 0 (recordsOf u) (λ k c z. absurd (omega (arith, marked k c .2))) in
       rw same (record {
         resolves = rw d at filled;
+        refusedFor = rw d at (first-out M 0 0 (recordsOf u));
         near = ap isMade filled ∙ resolves-near M (recordsOf u) ∙ ap allNear d;
         all = sym (ap length d) ∙ distances-count M 0 (recordsOf u);
         lands = unit-lands u M a;
@@ -50,17 +50,17 @@ module _ (s : List ℕ) (u : Script) (next : ℕ) (read : parseUnit s ≡ ok u n
       })
 
 -- for every list of bytes that is read, and whose walk does not refuse
-pub landing : (s : List ℕ) (u : Script) (next : ℕ) → parseUnit s ≡ ok u next → (t : State) → lower u ≡ going t → Landed u t
+pub landing : (s : List ℕ) (u : Script) (next : ℕ) → parseUnit s ≡ ok u next → (t : State) → lower u ≡ made t → Landed u t
 landing s u next read t e = unit-landed s u next read t e (listing u t e)
 
 -- so does the whole stage
-pub staged : (s : List ℕ) (u : Script) (next : ℕ) → parseUnit s ≡ ok u next → (t : State) → lower u ≡ going t → stage s ≡ withDistances (t .instrs) (distancesOf u)
-unfolding stage lowered walked onward
-staged s u next read t e = rw (read, lowered, e, walked, onward) (landing s u next read t e .resolves)
+pub staged : (s : List ℕ) (u : Script) (next : ℕ) → parseUnit s ≡ ok u next → (t : State) → lower u ≡ made t → stage s ≡ withDistances (t .instrs) (distancesOf u)
+unfolding stage lowered onward
+staged s u next read t e = rw (read, lowered, e, onward) (landing s u next read t e .resolves)
 
 -- 2. Bounds
 
-pub bounded : (s : List ℕ) (u : Script) (next : ℕ) → parseUnit s ≡ ok u next → (t : State) → lower u ≡ going t → Bounded s u t
+pub bounded : (s : List ℕ) (u : Script) (next : ℕ) → parseUnit s ≡ ok u next → (t : State) → lower u ≡ made t → Bounded s u t
 unfolding labelLimit
 bounded s u next read t e =
     let M : ℕ → ℕ = markOf t in
@@ -97,7 +97,7 @@ first-forward (d ∷ ds) h = go d (inRange d) refl (h .0) (λ t. first-forward d
     go (negsuc n) false e h k = true≢false (sym (in-range n h) ∙ e)
 
 each-near : (ds : List ℤ) → Backs ds → allNear ds ≡ true → Each NotBelow ds
-unfolding Backs allNear Each
+unfolding Backs allNear
 each-near [] h e = tt
 each-near (d ∷ ds) h e = go (inRange d) (h .1) (λ k. each-near ds k) e
   where
@@ -105,7 +105,7 @@ each-near (d ∷ ds) h e = go (inRange d) (h .1) (λ k. each-near ds k) e
     go true k more e = (h .0, more (k tt) e)
     go false k more e = absurd (true≢false (sym e))
 
-pub backward : (s : List ℕ) (u : Script) (next : ℕ) → parseUnit s ≡ ok u next → (t : State) → lower u ≡ going t → Backward u
+pub backward : (s : List ℕ) (u : Script) (next : ℕ) → parseUnit s ≡ ok u next → (t : State) → lower u ≡ made t → Backward u
 backward s u next read t e =
     let b = whole (markOf t) u .backs (agrees u t e) (omega arith) in
     record { forward = first-forward (distancesOf u) b; reach = each-near (distancesOf u) b }

@@ -1,13 +1,14 @@
 -- The landing table of document 01, on the tree alone: "No label, mark or offset is looked at."
 -- "Forward, a distance is the carrier's size plus the sizes of all emitted between it and the point where it lands;
 -- backward, minus the sizes of all from that point up to the carrier, without it."
+-- Here Jump, Nop and the like are the virtual sizes of those instructions, not their tags.
 use Prim.Native.Nat.{ℕ, zero, suc, _+_}
 use mathlib.Core.Bool.{cond}
 use mathlib.Core.List.{List, [], _∷_, _++_}
 use lib.IntN.{ℤ, pos, negℤ}
 use Rattle.definitions.specs.Tag
 use Rattle.definitions.specs.Tag.{tagSize, constTag, intrinsicOf}
-use Rattle.definitions.specs.Tree.{Callee, Expr, Exprs, Stmt, Block, Branches, Cases, Default, Script, nop, const, null, newInstance, construct, assign, field, element, conditional, dynCast, local, intrinsic, freeCall, staticCall, instanceCall, closureCall, enil, econs, expr, nest, while, branches, switch, initArray, initDefault, break, continue, return, returnNothing, bnil, bcons, brnil, brcons, cnil, ccons, absent, present}
+use Rattle.definitions.specs.Tree.{Callee, Expr, Exprs, Stmt, Block, Branches, Cases, Default, Script, nop, const, null, newInstance, construct, assign, field, index, conditional, dynCast, local, intrinsic, freeCall, staticCall, instanceCall, closureCall, enil, econs, expr, block, while, branches, switch, initArray, initDefault, break, continue, return, returnNothing, bnil, bcons, brnil, brcons, cnil, ccons, absent, present}
 use Rattle.definitions.specs.Lower.{nullTag, elementTag, localTag, defaultInstrs, midDefault, endsGroup}
 use Rattle.definitions.specs.Stage.{totalSize}
 
@@ -122,43 +123,47 @@ unfoldable pub sizeInvoke : (flagByte : ℕ) → ℕ
 sizeInvoke zero = InvokeVirtual
 sizeInvoke (suc b) = InvokeStatic
 
-unfoldable mutual
-  pub sizeE : Expr → ℕ
-  sizeE (nop at) = Nop
-  sizeE (const at b v) = tagSize (constTag b v)
-  sizeE (null at weak) = tagSize (nullTag weak)
-  sizeE (newInstance at class) = New
-  sizeE (construct at class args) = Construct + sizeEs args
-  sizeE (assign at p e) = Assign + sizeE p + sizeE e
-  sizeE (field at form name e) = sizeField form (sizeE e)
-  sizeE (element at dynamic type a i) = tagSize (elementTag dynamic) + sizeE a + sizeE i
-  sizeE (conditional at c t e) = Conditional + sizeE c + sizeE t + sizeE e
-  sizeE (dynCast at class weak e) = DynamicCast + sizeE e
-  sizeE (local at form i) = tagSize (localTag form)
-  sizeE (intrinsic at code short types i args) = tagSize (intrinsicOf code .tag) + sizeEs args
-  sizeE (freeCall at c args) = sizeInvoke (c .flags) + sizeA args (c .params) + ParamEnd
-  sizeE (staticCall at c args) = sizeInvoke (c .flags) + sizeA args (c .params) + ParamEnd
-  sizeE (instanceCall at weak e c args) = Context + sizeWeak weak + sizeE e + (sizeInvoke (c .flags) + sizeA args (c .params) + ParamEnd)
-  sizeE (closureCall at e name line args) = Context + sizeE e + (InvokeVirtual + sizeEs args + ParamEnd)
+-- an invoke, with the size of its arguments, and ParamEnd
+abbrev pub sizeCall : Callee → (arguments : ℕ) → ℕ
+sizeCall c arguments = sizeInvoke (c .flags) + arguments + ParamEnd
 
-  pub sizeEs : Exprs → ℕ
-  sizeEs enil = 0
-  sizeEs (econs e es) = sizeE e + sizeEs es
+unfoldable mutual
+  pub sizeExpr : Expr → ℕ
+  sizeExpr (nop at) = Nop
+  sizeExpr (const at b v) = tagSize (constTag b v)
+  sizeExpr (null at weak) = tagSize (nullTag weak)
+  sizeExpr (newInstance at class) = New
+  sizeExpr (construct at class args) = Construct + sizeExprs args
+  sizeExpr (assign at p e) = Assign + sizeExpr p + sizeExpr e
+  sizeExpr (field at form name e) = sizeField form (sizeExpr e)
+  sizeExpr (index at dynamic type a i) = tagSize (elementTag dynamic) + sizeExpr a + sizeExpr i
+  sizeExpr (conditional at c t e) = Conditional + sizeExpr c + sizeExpr t + sizeExpr e
+  sizeExpr (dynCast at class weak e) = DynamicCast + sizeExpr e
+  sizeExpr (local at form i) = tagSize (localTag form)
+  sizeExpr (intrinsic at code short types i args) = tagSize (intrinsicOf code .tag) + sizeExprs args
+  sizeExpr (freeCall at c args) = sizeCall c (sizeArgs args (c .params))
+  sizeExpr (staticCall at c args) = sizeCall c (sizeArgs args (c .params))
+  sizeExpr (instanceCall at weak e c args) = Context + sizeWeak weak + sizeExpr e + sizeCall c (sizeArgs args (c .params))
+  sizeExpr (closureCall at e name line args) = Context + sizeExpr e + (InvokeVirtual + sizeExprs args + ParamEnd)
+
+  pub sizeExprs : Exprs → ℕ
+  sizeExprs enil = 0
+  sizeExprs (econs e es) = sizeExpr e + sizeExprs es
 
   -- arguments, and a Nop for each that is absent
-  pub sizeA : Exprs → (params : List ℕ) → ℕ
-  sizeA enil ps = sizeNops ps
-  sizeA (econs e es) [] = sizeE e + sizeA es []
-  sizeA (econs e es) (p ∷ ps) = sizeSkip p + sizeE e + sizeA es ps
+  pub sizeArgs : Exprs → (params : List ℕ) → ℕ
+  sizeArgs enil ps = sizeNops ps
+  sizeArgs (econs e es) [] = sizeExpr e + sizeArgs es []
+  sizeArgs (econs e es) (p ∷ ps) = sizeSkip p + sizeExpr e + sizeArgs es ps
 
--- the elements of an InitArray; and all of it
-unfoldable pub sizeEl : Exprs → ℕ
-sizeEl enil = 0
-sizeEl (econs e es) = Assign + ArrayElement + Local + U64Const + sizeE e + sizeEl es
+-- the elements of an InitArray, each with what stands before it; and all of it
+unfoldable pub sizeElements : Exprs → ℕ
+sizeElements enil = 0
+sizeElements (econs e es) = Assign + ArrayElement + Local + U64Const + sizeExpr e + sizeElements es
 
 unfoldable pub sizeArray : Exprs → ℕ
 sizeArray enil = 0
-sizeArray (econs e es) = ArrayResize + Local + U64Const + sizeEl (econs e es)
+sizeArray (econs e es) = ArrayResize + Local + U64Const + sizeElements (econs e es)
 
 -- the Nop after a Return in a unit without a return value
 unfoldable pub sizeAfterReturn : (returns : ℕ) → ℕ
@@ -167,51 +172,51 @@ sizeAfterReturn (suc r) = 0
 
 -- statements, in a unit with the return byte `r`
 unfoldable mutual
-  pub sizeS : Stmt → (r : ℕ) → ℕ
-  sizeS (expr at e) r = sizeE e
-  sizeS (nest at b) r = sizeB b r
-  sizeS (while at c b) r = JumpIfFalse + sizeE c + sizeB b r + Jump
-  sizeS (branches at bs d) r = sizeBr bs r + sizeD d r
-  sizeS (switch at type e index cs d) r =
-      Switch + sizeE e + cond (midDefault d index cs) (sizeM cs + SwitchDefault + Jump + sizeBl cs index (sizeD d r) r) (sizeC cs r + sizeLast d r)
-  sizeS (initArray at l t es) r = sizeArray es
-  sizeS (initDefault at l b i) r = totalSize (defaultInstrs l b i)
-  sizeS (break at) r = Jump
-  sizeS (continue at) r = Jump
-  sizeS (return at e) r = Return + sizeE e + sizeAfterReturn r
-  sizeS (returnNothing at) r = Return + Nop
+  pub sizeStmt : Stmt → (r : ℕ) → ℕ
+  sizeStmt (expr at e) r = sizeExpr e
+  sizeStmt (block at b) r = sizeBlock b r
+  sizeStmt (while at c b) r = JumpIfFalse + sizeExpr c + sizeBlock b r + Jump
+  sizeStmt (branches at bs d) r = sizeBranches bs r + sizeDefault d r
+  sizeStmt (switch at type e defaultIndex cs d) r =
+      Switch + sizeExpr e + cond (midDefault d defaultIndex cs) (sizeMatchers cs + SwitchDefault + Jump + sizeBlocks cs defaultIndex (sizeDefault d r) r) (sizeCases cs r + sizeLast d r)
+  sizeStmt (initArray at l t es) r = sizeArray es
+  sizeStmt (initDefault at l b i) r = totalSize (defaultInstrs l b i)
+  sizeStmt (break at) r = Jump
+  sizeStmt (continue at) r = Jump
+  sizeStmt (return at e) r = Return + sizeExpr e + sizeAfterReturn r
+  sizeStmt (returnNothing at) r = Return + Nop
 
   -- the SwitchLabels with their matchers
-  pub sizeM : Cases → ℕ
-  sizeM cnil = 0
-  sizeM (ccons m b cs) = SwitchLabel + sizeE m + sizeM cs
+  pub sizeMatchers : Cases → ℕ
+  sizeMatchers cnil = 0
+  sizeMatchers (ccons m b cs) = SwitchLabel + sizeExpr m + sizeMatchers cs
 
   -- the blocks, with a default of size D before case `index`
-  pub sizeBl : Cases → (index D r : ℕ) → ℕ
-  sizeBl cnil index D r = 0
-  sizeBl (ccons m b cs) zero D r = D + sizeB b r + sizeBl cs zero 0 r
-  sizeBl (ccons m b cs) (suc index) D r = sizeB b r + sizeBl cs index D r
+  pub sizeBlocks : Cases → (defaultIndex D r : ℕ) → ℕ
+  sizeBlocks cnil defaultIndex D r = 0
+  sizeBlocks (ccons m b cs) zero D r = D + sizeBlock b r + sizeBlocks cs zero 0 r
+  sizeBlocks (ccons m b cs) (suc defaultIndex) D r = sizeBlock b r + sizeBlocks cs defaultIndex D r
 
   -- SwitchLabels, matchers and blocks
-  pub sizeC : Cases → (r : ℕ) → ℕ
-  sizeC cnil r = 0
-  sizeC (ccons m b cs) r = SwitchLabel + sizeE m + sizeB b r + sizeC cs r
+  pub sizeCases : Cases → (r : ℕ) → ℕ
+  sizeCases cnil r = 0
+  sizeCases (ccons m b cs) r = SwitchLabel + sizeExpr m + sizeBlock b r + sizeCases cs r
 
   pub sizeLast : Default → (r : ℕ) → ℕ
   sizeLast absent r = 0
-  sizeLast (present b) r = SwitchDefault + sizeB b r
+  sizeLast (present b) r = SwitchDefault + sizeBlock b r
 
-  pub sizeBr : Branches → (r : ℕ) → ℕ
-  sizeBr brnil r = 0
-  sizeBr (brcons c b bs) r = JumpIfFalse + sizeE c + sizeB b r + Jump + sizeBr bs r
+  pub sizeBranches : Branches → (r : ℕ) → ℕ
+  sizeBranches brnil r = 0
+  sizeBranches (brcons c b bs) r = JumpIfFalse + sizeExpr c + sizeBlock b r + Jump + sizeBranches bs r
 
-  pub sizeD : Default → (r : ℕ) → ℕ
-  sizeD absent r = 0
-  sizeD (present b) r = sizeB b r
+  pub sizeDefault : Default → (r : ℕ) → ℕ
+  sizeDefault absent r = 0
+  sizeDefault (present b) r = sizeBlock b r
 
-  pub sizeB : Block → (r : ℕ) → ℕ
-  sizeB bnil r = 0
-  sizeB (bcons s b) r = sizeS s r + sizeB b r
+  pub sizeBlock : Block → (r : ℕ) → ℕ
+  sizeBlock bnil r = 0
+  sizeBlock (bcons s b) r = sizeStmt s r + sizeBlock b r
 
 -- 3. Distances of expressions, in listing order: "a record's first before its second"
 
@@ -225,41 +230,44 @@ unfoldable pub distSkip : (shortCircuit size : ℕ) → List ℤ → List ℤ
 distSkip zero a ds = ds
 distSkip (suc s) a ds = ahead (Skip + a) ∷ ds
 
+-- invoke: past ParamEnd
+abbrev pub distCall : Callee → (arguments : ℕ) → List ℤ → List ℤ
+distCall c arguments ds = ahead (sizeCall c arguments) ∷ ds
+
 unfoldable mutual
-  pub distE : Expr → List ℤ
-  distE (nop at) = []
-  distE (const at b v) = []
-  distE (null at weak) = []
-  distE (newInstance at class) = []
-  distE (construct at class args) = distEs args
-  distE (assign at p e) = distE p and distE e
-  distE (field at form name e) = distField form (sizeE e) (distE e)
-  distE (element at dynamic type a i) = distE a and distE i
+  pub distExpr : Expr → List ℤ
+  distExpr (nop at) = []
+  distExpr (const at b v) = []
+  distExpr (null at weak) = []
+  distExpr (newInstance at class) = []
+  distExpr (construct at class args) = distExprs args
+  distExpr (assign at p e) = distExpr p and distExpr e
+  distExpr (field at form name e) = distField form (sizeExpr e) (distExpr e)
+  distExpr (index at dynamic type a i) = distExpr a and distExpr i
   -- Conditional: else part; past it
-  distE (conditional at c t e) =
-      ahead (Conditional + sizeE c + sizeE t) ∷ ahead (Conditional + sizeE c + sizeE t + sizeE e) ∷ (distE c and distE t and distE e)
-  distE (dynCast at class weak e) = distE e
-  distE (local at form i) = []
-  distE (intrinsic at code short types i args) = distEs args
-  -- invoke: past ParamEnd
-  distE (freeCall at c args) = ahead (sizeInvoke (c .flags) + sizeA args (c .params) + ParamEnd) ∷ distA args (c .params)
-  distE (staticCall at c args) = ahead (sizeInvoke (c .flags) + sizeA args (c .params) + ParamEnd) ∷ distA args (c .params)
+  distExpr (conditional at c t e) =
+      ahead (Conditional + sizeExpr c + sizeExpr t) ∷ ahead (Conditional + sizeExpr c + sizeExpr t + sizeExpr e) ∷ (distExpr c and distExpr t and distExpr e)
+  distExpr (dynCast at class weak e) = distExpr e
+  distExpr (local at form i) = []
+  distExpr (intrinsic at code short types i args) = distExprs args
+  distExpr (freeCall at c args) = distCall c (sizeArgs args (c .params)) (distArgs args (c .params))
+  distExpr (staticCall at c args) = distCall c (sizeArgs args (c .params)) (distArgs args (c .params))
   -- Context of an instance: past ParamEnd
-  distE (instanceCall at weak e c args) =
-      ahead (Context + sizeWeak weak + sizeE e + (sizeInvoke (c .flags) + sizeA args (c .params) + ParamEnd)) ∷
-      (distE e and ahead (sizeInvoke (c .flags) + sizeA args (c .params) + ParamEnd) ∷ distA args (c .params))
+  distExpr (instanceCall at weak e c args) =
+      ahead (Context + sizeWeak weak + sizeExpr e + sizeCall c (sizeArgs args (c .params))) ∷
+      (distExpr e and distCall c (sizeArgs args (c .params)) (distArgs args (c .params)))
   -- Context of a closure call: its InvokeVirtual
-  distE (closureCall at e name line args) =
-      ahead (Context + sizeE e) ∷ (distE e and ahead (InvokeVirtual + sizeEs args + ParamEnd) ∷ distEs args)
+  distExpr (closureCall at e name line args) =
+      ahead (Context + sizeExpr e) ∷ (distExpr e and ahead (InvokeVirtual + sizeExprs args + ParamEnd) ∷ distExprs args)
 
-  pub distEs : Exprs → List ℤ
-  distEs enil = []
-  distEs (econs e es) = distE e and distEs es
+  pub distExprs : Exprs → List ℤ
+  distExprs enil = []
+  distExprs (econs e es) = distExpr e and distExprs es
 
-  pub distA : Exprs → (params : List ℕ) → List ℤ
-  distA enil ps = []
-  distA (econs e es) [] = distE e and distA es []
-  distA (econs e es) (p ∷ ps) = distSkip p (sizeE e) (distE e) and distA es ps
+  pub distArgs : Exprs → (params : List ℕ) → List ℤ
+  distArgs enil ps = []
+  distArgs (econs e es) [] = distExpr e and distArgs es []
+  distArgs (econs e es) (p ∷ ps) = distSkip p (sizeExpr e) (distExpr e) and distArgs es ps
 
 -- 4. Distances of statements. `before` is the size of all emitted from where continue lands up to this piece,
 -- `after` of all from its end up to where break lands: "a break belongs to the innermost loop or switch, a continue to the innermost loop"
@@ -267,90 +275,90 @@ unfoldable mutual
 -- from the first of these cases up to the end of the matcher of its group's last case
 unfoldable pub toBody : Cases → ℕ
 toBody cnil = 0
-toBody (ccons m b cs) = SwitchLabel + sizeE m + cond (endsGroup b cs) 0 (toBody cs)
+toBody (ccons m b cs) = SwitchLabel + sizeExpr m + cond (endsGroup b cs) 0 (toBody cs)
 
 -- the blocks before case `index`
-unfoldable pub toDefault : Cases → (index r : ℕ) → ℕ
-toDefault cnil index r = 0
+unfoldable pub toDefault : Cases → (defaultIndex r : ℕ) → ℕ
+toDefault cnil defaultIndex r = 0
 toDefault (ccons m b cs) zero r = 0
-toDefault (ccons m b cs) (suc index) r = sizeB b r + toDefault cs index r
+toDefault (ccons m b cs) (suc defaultIndex) r = sizeBlock b r + toDefault cs defaultIndex r
 
 -- the SwitchLabels of a switch with a mid default of size D before case `index`: `gap` is the size of all from the end of the last matcher
 -- up to the block of the first of these cases or, if that is case `index`, up to the default
-unfoldable pub distM : Cases → (index D gap r : ℕ) → List ℤ
-distM cnil index D gap r = []
+unfoldable pub distMatchers : Cases → (defaultIndex D gap r : ℕ) → List ℤ
+distMatchers cnil defaultIndex D gap r = []
 -- SwitchLabel next: next SwitchLabel, else SwitchDefault; SwitchLabel body, mid default: its own block
-distM (ccons m b cs) zero D gap r =
-    ahead (SwitchLabel + sizeE m) ∷ ahead (SwitchLabel + sizeE m + sizeM cs + gap + D) ∷ (distE m and distM cs zero 0 (gap + D + sizeB b r) r)
-distM (ccons m b cs) (suc index) D gap r =
-    ahead (SwitchLabel + sizeE m) ∷ ahead (SwitchLabel + sizeE m + sizeM cs + gap) ∷ (distE m and distM cs index D (gap + sizeB b r) r)
+distMatchers (ccons m b cs) zero D gap r =
+    ahead (SwitchLabel + sizeExpr m) ∷ ahead (SwitchLabel + sizeExpr m + sizeMatchers cs + gap + D) ∷ (distExpr m and distMatchers cs zero 0 (gap + D + sizeBlock b r) r)
+distMatchers (ccons m b cs) (suc defaultIndex) D gap r =
+    ahead (SwitchLabel + sizeExpr m) ∷ ahead (SwitchLabel + sizeExpr m + sizeMatchers cs + gap) ∷ (distExpr m and distMatchers cs defaultIndex D (gap + sizeBlock b r) r)
 
 unfoldable mutual
-  pub distS : Stmt → (r before after : ℕ) → List ℤ
-  distS (expr at e) r before after = distE e
-  distS (nest at b) r before after = distB b r before after
+  pub distStmt : Stmt → (r before after : ℕ) → List ℤ
+  distStmt (expr at e) r before after = distExpr e
+  distStmt (block at b) r before after = distBlock b r before after
   -- While's JumpIfFalse: past the closing Jump; closing Jump: the loop's JumpIfFalse
-  distS (while at c b) r before after =
-      ahead (JumpIfFalse + sizeE c + sizeB b r + Jump) ∷ (distE c and distB b r (JumpIfFalse + sizeE c) Jump and
-      back (JumpIfFalse + sizeE c + sizeB b r) ∷ [])
-  distS (branches at bs d) r before after = distBr bs r (sizeD d r) before (sizeD d r + after) and distD d r (before + sizeBr bs r) after
+  distStmt (while at c b) r before after =
+      ahead (JumpIfFalse + sizeExpr c + sizeBlock b r + Jump) ∷ (distExpr c and distBlock b r (JumpIfFalse + sizeExpr c) Jump and
+      back (JumpIfFalse + sizeExpr c + sizeBlock b r) ∷ [])
+  distStmt (branches at bs d) r before after = distBranches bs r (sizeDefault d r) before (sizeDefault d r + after) and distDefault d r (before + sizeBranches bs r) after
   -- Switch: next SwitchLabel, else SwitchDefault, else end; Jump after SwitchDefault: the default block, before case default_index
-  distS (switch at type e index cs d) r before after =
-      ahead (Switch + sizeE e) ∷
-      (distE e and
-      cond (midDefault d index cs)
-      (distM cs index (sizeD d r) (SwitchDefault + Jump) r and ahead (Jump + toDefault cs index r) ∷
-      distBl cs index r (sizeD d r) (λ before after. distD d r before after) (before + Switch + sizeE e + sizeM cs + SwitchDefault + Jump) 0)
-      (distC cs r (before + Switch + sizeE e) (sizeLast d r) and distLast d r (before + Switch + sizeE e + sizeC cs r) 0))
-  distS (initArray at l t es) r before after = distEs es
-  distS (initDefault at l b i) r before after = []
+  distStmt (switch at type e defaultIndex cs d) r before after =
+      ahead (Switch + sizeExpr e) ∷
+      (distExpr e and
+      cond (midDefault d defaultIndex cs)
+      (distMatchers cs defaultIndex (sizeDefault d r) (SwitchDefault + Jump) r and ahead (Jump + toDefault cs defaultIndex r) ∷
+      distBlocks cs defaultIndex r (sizeDefault d r) (λ before after. distDefault d r before after) (before + Switch + sizeExpr e + sizeMatchers cs + SwitchDefault + Jump) 0)
+      (distCases cs r (before + Switch + sizeExpr e) (sizeLast d r) and distLast d r (before + Switch + sizeExpr e + sizeCases cs r) 0))
+  distStmt (initArray at l t es) r before after = distExprs es
+  distStmt (initDefault at l b i) r before after = []
   -- break: past the closing Jump, or past the switch
-  distS (break at) r before after = ahead (Jump + after) ∷ []
+  distStmt (break at) r before after = ahead (Jump + after) ∷ []
   -- continue: the loop's JumpIfFalse
-  distS (continue at) r before after = back before ∷ []
-  distS (return at e) r before after = distE e
-  distS (returnNothing at) r before after = []
+  distStmt (continue at) r before after = back before ∷ []
+  distStmt (return at e) r before after = distExpr e
+  distStmt (returnNothing at) r before after = []
 
   -- the blocks, with a default of size D before case `index`, whose distances `default` gives
-  pub distBl : Cases → (index r D : ℕ) → (default : (before after : ℕ) → List ℤ) → (before after : ℕ) → List ℤ
-  distBl cnil index r D default before after = []
-  distBl (ccons m b cs) zero r D default before after =
-      default before (sizeB b r + sizeBl cs zero 0 r + after) and distB b r (before + D) (sizeBl cs zero 0 r + after) and
-      distBl cs zero r 0 (λ before after. []) (before + D + sizeB b r) after
-  distBl (ccons m b cs) (suc index) r D default before after =
-      distB b r before (sizeBl cs index D r + after) and distBl cs index r D default (before + sizeB b r) after
+  pub distBlocks : Cases → (defaultIndex r D : ℕ) → (default : (before after : ℕ) → List ℤ) → (before after : ℕ) → List ℤ
+  distBlocks cnil defaultIndex r D default before after = []
+  distBlocks (ccons m b cs) zero r D default before after =
+      default before (sizeBlock b r + sizeBlocks cs zero 0 r + after) and distBlock b r (before + D) (sizeBlocks cs zero 0 r + after) and
+      distBlocks cs zero r 0 (λ before after. []) (before + D + sizeBlock b r) after
+  distBlocks (ccons m b cs) (suc defaultIndex) r D default before after =
+      distBlock b r before (sizeBlocks cs defaultIndex D r + after) and distBlocks cs defaultIndex r D default (before + sizeBlock b r) after
 
-  pub distC : Cases → (r before after : ℕ) → List ℤ
-  distC cnil r before after = []
+  pub distCases : Cases → (r before after : ℕ) → List ℤ
+  distCases cnil r before after = []
   -- SwitchLabel next: next SwitchLabel, else SwitchDefault, else end; SwitchLabel body, otherwise: after the matcher of its group's last case
-  distC (ccons m b cs) r before after =
-      ahead (SwitchLabel + sizeE m + sizeB b r) ∷ ahead (SwitchLabel + sizeE m + cond (endsGroup b cs) 0 (toBody cs)) ∷
-      (distE m and distB b r (before + SwitchLabel + sizeE m) (sizeC cs r + after) and distC cs r (before + SwitchLabel + sizeE m + sizeB b r) after)
+  distCases (ccons m b cs) r before after =
+      ahead (SwitchLabel + sizeExpr m + sizeBlock b r) ∷ ahead (SwitchLabel + sizeExpr m + cond (endsGroup b cs) 0 (toBody cs)) ∷
+      (distExpr m and distBlock b r (before + SwitchLabel + sizeExpr m) (sizeCases cs r + after) and distCases cs r (before + SwitchLabel + sizeExpr m + sizeBlock b r) after)
 
   pub distLast : Default → (r before after : ℕ) → List ℤ
   distLast absent r before after = []
-  distLast (present b) r before after = distB b r (before + SwitchDefault) after
+  distLast (present b) r before after = distBlock b r (before + SwitchDefault) after
 
   -- `rest` is the size of all from the end of the branches up to the end of the statement
-  pub distBr : Branches → (r rest before after : ℕ) → List ℤ
-  distBr brnil r rest before after = []
+  pub distBranches : Branches → (r rest before after : ℕ) → List ℤ
+  distBranches brnil r rest before after = []
   -- a branch's JumpIfFalse: past that Jump; its Jump: past the statement
-  distBr (brcons c b bs) r rest before after =
-      ahead (JumpIfFalse + sizeE c + sizeB b r + Jump) ∷ (distE c and distB b r (before + JumpIfFalse + sizeE c) (Jump + sizeBr bs r + after) and
-      ahead (Jump + sizeBr bs r + rest) ∷ distBr bs r rest (before + JumpIfFalse + sizeE c + sizeB b r + Jump) after)
+  distBranches (brcons c b bs) r rest before after =
+      ahead (JumpIfFalse + sizeExpr c + sizeBlock b r + Jump) ∷ (distExpr c and distBlock b r (before + JumpIfFalse + sizeExpr c) (Jump + sizeBranches bs r + after) and
+      ahead (Jump + sizeBranches bs r + rest) ∷ distBranches bs r rest (before + JumpIfFalse + sizeExpr c + sizeBlock b r + Jump) after)
 
-  pub distD : Default → (r before after : ℕ) → List ℤ
-  distD absent r before after = []
-  distD (present b) r before after = distB b r before after
+  pub distDefault : Default → (r before after : ℕ) → List ℤ
+  distDefault absent r before after = []
+  distDefault (present b) r before after = distBlock b r before after
 
-  pub distB : Block → (r before after : ℕ) → List ℤ
-  distB bnil r before after = []
-  distB (bcons s b) r before after = distS s r before (sizeB b r + after) and distB b r (before + sizeS s r) after
+  pub distBlock : Block → (r before after : ℕ) → List ℤ
+  distBlock bnil r before after = []
+  distBlock (bcons s b) r before after = distStmt s r before (sizeBlock b r + after) and distBlock b r (before + sizeStmt s r) after
 
 -- 5. A unit
 
 abbrev pub sizeOf : Script → ℕ
-sizeOf u = sizeB (u .body) (u .returns)
+sizeOf u = sizeBlock (u .body) (u .returns)
 
 abbrev pub distancesOf : Script → List ℤ
-distancesOf u = distB (u .body) (u .returns) 0 0
+distancesOf u = distBlock (u .body) (u .returns) 0 0

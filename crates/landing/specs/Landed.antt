@@ -38,21 +38,21 @@ filled (i ∷ is) ds =
     ∷ filled is (left (rowOf (i .tag) .second) es)
 
 -- how many distances the records take
-unfoldable pub carriers : List Instr → ℕ
-carriers [] = 0
-carriers (i ∷ is) = cond (rowOf (i .tag) .first) 1 0 + cond (rowOf (i .tag) .second) 1 0 + carriers is
+unfoldable pub labelFields : List Instr → ℕ
+labelFields [] = 0
+labelFields (i ∷ is) = cond (rowOf (i .tag) .first) 1 0 + cond (rowOf (i .tag) .second) 1 0 + labelFields is
 
--- 2. The first distance outside -32,768 to 32,767: the number of its record, and 0 for a first, 1 for a second
+-- 2. The first distance outside -32,768 to 32,767: the number of its record, 0 for a first, 1 for a second, and the distance
 
 abbrev pub Far : Type 0
-Far = Option (record { place : ℕ; extra : ℕ })
+Far = Option (record { place : ℕ; extra : ℕ; distance : ℤ })
 
 unfoldable pub orElse : Far → Far → Far
 orElse none g = g
 orElse (some p) g = some p
 
 unfoldable pub farField : (carries : Bool) (place extra : ℕ) → List ℤ → Far
-farField true k x ds = cond (inRange (getD ds 0 (pos 0))) none (some (record { place = k; extra = x }))
+farField true k x ds = let d = getD ds 0 (pos 0) in cond (inRange d) none (some (record { place = k; extra = x; distance = d }))
 farField false k x ds = none
 
 -- from record number k on
@@ -61,6 +61,15 @@ firstFar k [] ds = none
 firstFar k (i ∷ is) ds =
     let es = left (rowOf (i .tag) .first) ds in
     orElse (farField (rowOf (i .tag) .first) k 0 ds) (orElse (farField (rowOf (i .tag) .second) k 1 es) (firstFar (suc k) is (left (rowOf (i .tag) .second) es)))
+
+unfoldable pub farDistance : Far → Option ℤ
+farDistance none = none
+farDistance (some p) = some (p .distance)
+
+-- the same of the distances alone, whatever records take them
+unfoldable pub firstOut : List ℤ → Option ℤ
+firstOut [] = none
+firstOut (d ∷ ds) = cond (inRange d) (firstOut ds) (some d)
 
 -- 32 there; otherwise the listing with the distances
 unfoldable pub unlessFar : {A : Type 0} → Far → A → Result A
@@ -113,10 +122,12 @@ pub record Landed (u : Script) (t : State) : Type 0 where
   -- resolving gives 32 with place and extra of the first distance of the landing table that is too far,
   -- otherwise the labelled listing with exactly the distances of the table in place of its labels
   pub resolves : resolveRecords (t .marks) 0 0 (t .instrs) ≡ withDistances (t .instrs) (distancesOf u)
+  -- so it is refused for the first distance of the table that is too far
+  pub refusedFor : farDistance (firstFar 0 (t .instrs) (distancesOf u)) ≡ firstOut (distancesOf u)
   -- it resolves exactly if none of them is too far
   pub near : isMade (resolveRecords (t .marks) 0 0 (t .instrs)) ≡ allNear (distancesOf u)
   -- there are as many as the records take
-  pub all : length (distancesOf u) ≡ carriers (t .instrs)
+  pub all : length (distancesOf u) ≡ labelFields (t .instrs)
   -- each lands on the first byte of an instruction or on the end
   pub lands : AllLand (t .instrs) 0 (t .instrs) (distancesOf u)
   -- 31 is never given: a label that is carried is below the label count, and marked with an offset of the listing
@@ -140,22 +151,19 @@ unfoldable pub NotBelow : ℤ → Type 0
 NotBelow (pos n) = Unit
 NotBelow (negsuc n) = suc n ≤ 32764
 
-unfoldable pub Each : (ℤ → Type 0) → List ℤ → Type 0
-Each P [] = Unit
-Each P (d ∷ ds) = P d × Each P ds
+-- each of a list
+abbrev pub Each : {A : Type 0} → (A → Type 0) → List A → Type 0
+Each P [] = Unit {0}
+Each P (x ∷ xs) = P x × Each P xs
 
--- the first distance outside 16 bits, and that it is one ahead
-unfoldable pub firstOut : List ℤ → Option ℤ
-firstOut [] = none
-firstOut (d ∷ ds) = cond (inRange d) (firstOut ds) (some d)
-
+-- a distance, if there is one, is one ahead
 unfoldable pub Forward : Option ℤ → Type 0
 Forward none = Unit
 Forward (some (pos n)) = Unit
 Forward (some (negsuc n)) = ⊥
 
 pub record Backward (u : Script) : Type 0 where
-  -- the distance that a unit is refused for is never one back
+  -- the first distance that is too far, for which a unit is refused, is never one back
   pub forward : Forward (firstOut (distancesOf u))
   -- in a unit that resolves, no distance is below -32,764
   pub reach : allNear (distancesOf u) ≡ true → Each NotBelow (distancesOf u)

@@ -1,3 +1,4 @@
--- The landing table, and what the landing theorem says.
+-- The landing table, what the landing theorem says, and what holds along a walk.
 pub mod Distance
 pub mod Landed
+pub mod Walk

@@ -6,25 +6,33 @@ use mathlib.Core.Bool.{Bool, true, false}
 use native.Mathlib.Omega.{arith}
 use lib.Dec.{leb}
 use borrow.Author.Tests.{leb-true}
-use Rattle.definitions.specs.Answer.{Answer, ok, refused, bind}
+use Rattle.definitions.specs.Answer.{Answer, ok, refused, bind, made, refusal}
 use Rattle.definitions.specs.Bytes.{number}
 use Rattle.definitions.specs.Read.{Parser, _>>=_, give, unsigned, room, span}
 
 -- 1. Steps
 
-pub never : {A X : Type 0} {n p x k : ℕ} {a : A} → refused n p x ≡ ok a k → X
-never e = let z : _≡_ {A = ℕ} 0 1 = cc in absurd (omega arith)
+-- of two constructors that are said to be equal, `cc` makes 0 ≡ 1
+pub impossible : {X : Type 0} → _≡_ {A = ℕ} 0 1 → X
+impossible z = absurd (omega arith)
+
+pub refused-not-ok : {A X : Type 0} {n p x k : ℕ} {a : A} → refused n p x ≡ ok a k → X
+refused-not-ok e = impossible (cc)
+
+-- the same of what follows reading
+pub refusal-not-made : {A X : Type 0} {n p x : ℕ} {a : A} → refusal n p x ≡ made a → X
+refusal-not-made e = impossible (cc)
 
 -- a step and what follows it
 pub bind-ok : {A B : Type 0} (m : Answer A) (f : A → ℕ → Answer B) {b : B} {n : ℕ} → bind m f ≡ ok b n → (a : A) × (k : ℕ) × (m ≡ ok a k) × (f a k ≡ ok b n)
 unfolding bind
 bind-ok (ok a k) f e = (a, k, refl, e)
-bind-ok (refused n p x) f e = never e
+bind-ok (refused n p x) f e = refused-not-ok e
 
 -- a test and what follows it
 pub when-ok : {A : Type 0} (b : Bool) (m : Answer A) (n p x : ℕ) {a : A} {k : ℕ} → (elim b as (λ _. Answer A) [ true ↦ m | false ↦ refused n p x ]) ≡ ok a k → (b ≡ true) × (m ≡ ok a k)
 when-ok true m n p x e = (refl, e)
-when-ok false m n p x e = never e
+when-ok false m n p x e = refused-not-ok e
 
 pub give-ok : {A : Type 0} (a : A) (at : ℕ) {b : A} {n : ℕ} → give a at ≡ ok b n → (b ≡ a) × (at ≡ n)
 unfolding give

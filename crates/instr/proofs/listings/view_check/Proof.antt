@@ -7,13 +7,23 @@ use Rattle.instr.proofs.listings.view_check.Statement.{statement}
 use Rattle.instr.proofs.listings.view_check.Tie as tie
 
 returns : tie.Need-returns
-returns c = view-bad (c .before .before .before .before .args .s .now) (c .before .before .before .before .args .n) (ap checkedIs (sym (c .enum-told .given .1)) ∙ c .before .before .check-listing .ensures)
+returns c =
+    let a = c .before .before .before .before .args in
+    view-bad (a .s .now) (a .n) (ap checkedIs (sym (c .enum-told .given .1)) ∙ c .before .before .check-listing .ensures)
 
 returns-2 : tie.Need-returns-2
-returns-2 c = view-seen (c .before .before .before .before .before .before .args .s .now) (c .before .before .before .before .before .before .args .n) (c .before .before .count .given .0 .0) (ap checkedIs (sym (c .before .before .count .given .1)) ∙ c .before .before .before .before .check-listing .ensures) (c .if1 .taken)
+returns-2 c =
+    let told = c .before .before in
+    let a = told .before .before .before .before .args in
+    let n = told .count .given in
+    view-seen (a .s .now) (a .n) (n .0 .0) (ap checkedIs (sym (n .1)) ∙ told .before .before .check-listing .ensures) (c .if1 .taken)
 
 returns-3 : tie.Need-returns-3
-returns-3 c = view-past (c .before .before .before .before .before .before .args .s .now) (c .before .before .before .before .before .before .args .n) (c .before .before .count .given .0 .0) (ap checkedIs (sym (c .before .before .count .given .1)) ∙ c .before .before .before .before .check-listing .ensures) (c .if1 .left)
+returns-3 c =
+    let told = c .before .before in
+    let a = told .before .before .before .before .args in
+    let n = told .count .given in
+    view-past (a .s .now) (a .n) (n .0 .0) (ap checkedIs (sym (n .1)) ∙ told .before .before .check-listing .ensures) (c .if1 .left)
 
 pub view-check-spec : {M : Type 1} → statement M
 view-check-spec = tie.close (tie.spec (λ c κs. search needs) (λ c. search needs) (λ c. search needs) returns returns-2

@@ -1,14 +1,13 @@
--- Seven fields, each a number at its place.
-use Rattle.instr.proofs.RecordLaws.{read-all}
+-- The fast form where the record is in the slice, else the plain one.
+use mathlib.Core.Path.{sym, _∙_}
+use borrow.Author.Tests.{leb-true}
 use borrow.Author.Needs.{needs}
 use Rattle.instr.proofs.records.read_record.Statement.{statement}
 use Rattle.instr.proofs.records.read_record.Tie as tie
 
-returns : tie.Need-returns
-returns c = read-all (c .before .before .before .before .before .before .before .before .args .s .now) (c .before .before .before .before .before .before .before .before .args .at) (c .before .before .before .before .before .before .number-at .ensures .0) (c .before .before .before .before .before .number-at2 .ensures .0) (c .before .before .before .before .number-at3 .ensures .0) (c .before .before .before .number-at4 .ensures .0) (c .before .before .number-at5 .ensures .0) (c .before .number-at6 .ensures .0) (c .number-at7 .ensures .0)
+read-inside-requires : tie.Need-read-inside-requires
+read-inside-requires c κs = leb-true _ _ (sym (c .before .inside .ensures) ∙ c .if1 .taken)
 
 pub read-record-spec : {M : Type 1} → statement M
-read-record-spec = tie.close (tie.spec (λ c κs. search needs) (λ c. search needs) (λ c κs. search needs)
-    (λ c. search needs) (λ c κs. search needs) (λ c. search needs) (λ c κs. search needs) (λ c. search needs)
-    (λ c κs. search needs) (λ c. search needs) (λ c κs. search needs) (λ c. search needs) (λ c κs. search needs)
-    returns)
+read-record-spec = tie.close (tie.spec (λ c κs. search needs) read-inside-requires (λ c. search needs)
+    (λ c κs. search needs) (λ c. search needs))

@@ -1,15 +1,92 @@
--- The whole table is that of the definitions, by computing; its bound is one computed test.
+-- An arm is the table's entry by computing; the last is for the tags that the base does not emit.
 use mathlib.Core.Path.{refl}
-use Rattle.definitions.specs.Tag.{sizes, tagSize}
-use Rattle.laws.proofs.Tables.{every}
-use Rattle.instr.proofs.TableLaws.{below}
-use borrow.Author.Needs.{needs}
+use Rattle.definitions.specs.Tag.{sizes, tagSize, emitted}
+use Rattle.instr.proofs.TableLaws.{those, size-at, size-other}
 use Rattle.instr.proofs.tables.size_of.Statement.{statement}
 use Rattle.instr.proofs.tables.size_of.Tie as tie
 
-returns : tie.Need-returns
-unfolding sizes tagSize every
-returns c = (refl, below 17 sizes tt (c .args .tag))
+returns-78 : tie.Need-returns-78
+unfolding sizes tagSize emitted those
+returns-78 c = size-other (c .before .args .tag) (c .before .fits .tag .fits) (c .match .rest)
 
 pub size-of-spec : {M : Type 1} → statement M
-size-of-spec = tie.close (tie.spec (λ c. search needs) returns)
+unfolding sizes tagSize
+size-of-spec = tie.close (tie.spec
+    (λ c. size-at (c .match .keys1) refl)
+    (λ c. size-at (c .match .keys2) refl)
+    (λ c. size-at (c .match .keys3) refl)
+    (λ c. size-at (c .match .keys4) refl)
+    (λ c. size-at (c .match .keys5) refl)
+    (λ c. size-at (c .match .keys6) refl)
+    (λ c. size-at (c .match .keys7) refl)
+    (λ c. size-at (c .match .keys8) refl)
+    (λ c. size-at (c .match .keys9) refl)
+    (λ c. size-at (c .match .keys10) refl)
+    (λ c. size-at (c .match .keys11) refl)
+    (λ c. size-at (c .match .keys12) refl)
+    (λ c. size-at (c .match .keys13) refl)
+    (λ c. size-at (c .match .keys14) refl)
+    (λ c. size-at (c .match .keys15) refl)
+    (λ c. size-at (c .match .keys16) refl)
+    (λ c. size-at (c .match .keys17) refl)
+    (λ c. size-at (c .match .keys18) refl)
+    (λ c. size-at (c .match .keys19) refl)
+    (λ c. size-at (c .match .keys20) refl)
+    (λ c. size-at (c .match .keys21) refl)
+    (λ c. size-at (c .match .keys22) refl)
+    (λ c. size-at (c .match .keys23) refl)
+    (λ c. size-at (c .match .keys24) refl)
+    (λ c. size-at (c .match .keys25) refl)
+    (λ c. size-at (c .match .keys26) refl)
+    (λ c. size-at (c .match .keys27) refl)
+    (λ c. size-at (c .match .keys28) refl)
+    (λ c. size-at (c .match .keys29) refl)
+    (λ c. size-at (c .match .keys30) refl)
+    (λ c. size-at (c .match .keys31) refl)
+    (λ c. size-at (c .match .keys32) refl)
+    (λ c. size-at (c .match .keys33) refl)
+    (λ c. size-at (c .match .keys34) refl)
+    (λ c. size-at (c .match .keys35) refl)
+    (λ c. size-at (c .match .keys36) refl)
+    (λ c. size-at (c .match .keys37) refl)
+    (λ c. size-at (c .match .keys38) refl)
+    (λ c. size-at (c .match .keys39) refl)
+    (λ c. size-at (c .match .keys40) refl)
+    (λ c. size-at (c .match .keys41) refl)
+    (λ c. size-at (c .match .keys42) refl)
+    (λ c. size-at (c .match .keys43) refl)
+    (λ c. size-at (c .match .keys44) refl)
+    (λ c. size-at (c .match .keys45) refl)
+    (λ c. size-at (c .match .keys46) refl)
+    (λ c. size-at (c .match .keys47) refl)
+    (λ c. size-at (c .match .keys48) refl)
+    (λ c. size-at (c .match .keys49) refl)
+    (λ c. size-at (c .match .keys50) refl)
+    (λ c. size-at (c .match .keys51) refl)
+    (λ c. size-at (c .match .keys52) refl)
+    (λ c. size-at (c .match .keys53) refl)
+    (λ c. size-at (c .match .keys54) refl)
+    (λ c. size-at (c .match .keys55) refl)
+    (λ c. size-at (c .match .keys56) refl)
+    (λ c. size-at (c .match .keys57) refl)
+    (λ c. size-at (c .match .keys58) refl)
+    (λ c. size-at (c .match .keys59) refl)
+    (λ c. size-at (c .match .keys60) refl)
+    (λ c. size-at (c .match .keys61) refl)
+    (λ c. size-at (c .match .keys62) refl)
+    (λ c. size-at (c .match .keys63) refl)
+    (λ c. size-at (c .match .keys64) refl)
+    (λ c. size-at (c .match .keys65) refl)
+    (λ c. size-at (c .match .keys66) refl)
+    (λ c. size-at (c .match .keys67) refl)
+    (λ c. size-at (c .match .keys68) refl)
+    (λ c. size-at (c .match .keys69) refl)
+    (λ c. size-at (c .match .keys70) refl)
+    (λ c. size-at (c .match .keys71) refl)
+    (λ c. size-at (c .match .keys72) refl)
+    (λ c. size-at (c .match .keys73) refl)
+    (λ c. size-at (c .match .keys74) refl)
+    (λ c. size-at (c .match .keys75) refl)
+    (λ c. size-at (c .match .keys76) refl)
+    (λ c. size-at (c .match .keys77) refl)
+    returns-78)

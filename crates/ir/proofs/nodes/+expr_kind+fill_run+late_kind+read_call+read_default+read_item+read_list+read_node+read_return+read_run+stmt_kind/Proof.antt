@@ -54,8 +54,8 @@ use Rattle.ir.proofs.fields.refuse_kind.Reads as refuse-kind-reads
 use Rattle.ir.proofs.fields.skip.Reads as skip-reads
 use Rattle.ir.proofs.fields.skip_const.Reads as skip-const-reads
 use Rattle.ir.proofs.fields.skip_init.Reads as skip-init-reads
-use Rattle.ir.proofs.fields.skip_small.Reads as skip-small-reads
-use Rattle.ir.proofs.fields.small_field.Reads as small-field-reads
+use Rattle.ir.proofs.fields.skip_below.Reads as skip-below-reads
+use Rattle.ir.proofs.fields.byte_below.Reads as byte-below-reads
 use Rattle.ir.proofs.fields.span_at.Reads as span-at-reads
 use Rattle.ir.proofs.fields.value_of.Reads as value-of-reads
 use Rattle.ir.proofs.nodes.+expr_kind+fill_run+late_kind+read_call+read_default+read_item+read_list+read_node+read_return+read_run+stmt_kind.{statement}
@@ -164,8 +164,8 @@ abbrev expr-kind-calls : ℕ → expr-kind-lts.Claims
 expr-kind-calls t = (
   skip-const-reads.Asked,
   skip-const-reads.Learnt,
-  skip-small-reads.Asked,
-  skip-small-reads.Learnt,
+  skip-below-reads.Asked,
+  skip-below-reads.Learnt,
   skip-reads.Asked,
   skip-reads.Learnt,
   read-run-below t,
@@ -185,8 +185,8 @@ abbrev late-kind-calls : ℕ → late-kind-lts.Claims
 late-kind-calls t = (
   skip-reads.Asked,
   skip-reads.Learnt,
-  skip-small-reads.Asked,
-  skip-small-reads.Learnt,
+  skip-below-reads.Asked,
+  skip-below-reads.Learnt,
   read-node-below t,
   read-node.Post,
   read-run-below t,
@@ -244,8 +244,8 @@ stmt-kind-calls t = (
   read-node.Post,
   read-run-below t,
   read-run.Post,
-  small-field-reads.Asked,
-  small-field-reads.Learnt,
+  byte-below-reads.Asked,
+  byte-below-reads.Learnt,
   cursor-of-reads.Asked,
   cursor-of-reads.Learnt,
   value-of-reads.Asked,
@@ -272,7 +272,7 @@ expr-kind-returns-2 : (t : ℕ) → expr-kind-lts.Need-returns-2 (expr-kind-call
 expr-kind-returns-2 t c = expr-2 _ _ _ _ _ _ _ (c .before .match .keys2) (c .skip-const .ensures)
 
 expr-kind-returns-3 : (t : ℕ) → expr-kind-lts.Need-returns-3 (expr-kind-calls t) (expr-kind-at t) expr-kind.Post
-expr-kind-returns-3 t c = expr-3 _ _ _ _ _ _ _ (c .before .match .keys3) (c .skip-small .ensures)
+expr-kind-returns-3 t c = expr-3 _ _ _ _ _ _ _ (c .before .match .keys3) (c .skip-below .ensures)
 
 expr-kind-returns-4 : (t : ℕ) → expr-kind-lts.Need-returns-4 (expr-kind-calls t) (expr-kind-at t) expr-kind.Post
 expr-kind-returns-4 t c = expr-4 _ _ _ _ _ _ _ (c .before .match .keys4) (c .skip .ensures)
@@ -284,10 +284,10 @@ expr-kind-returns-6 : (t : ℕ) → expr-kind-lts.Need-returns-6 (expr-kind-call
 expr-kind-returns-6 t c = expr-6 _ _ _ _ _ _ _ _ (c .before .before .match .keys6) (c .before .read-node .ensures) (c .read-node2 .ensures)
 
 expr-kind-returns-7 : (t : ℕ) → expr-kind-lts.Need-returns-7 (expr-kind-calls t) (expr-kind-at t) expr-kind.Post
-expr-kind-returns-7 t c = expr-7 _ _ _ _ _ _ _ _ _ (c .before .before .before .match .keys7) (c .before .before .skip-small2 .ensures) (c .before .skip3 .ensures) (c .read-node3 .ensures)
+expr-kind-returns-7 t c = expr-7 _ _ _ _ _ _ _ _ _ (c .before .before .before .match .keys7) (c .before .before .skip-below2 .ensures) (c .before .skip3 .ensures) (c .read-node3 .ensures)
 
 expr-kind-returns-8 : (t : ℕ) → expr-kind-lts.Need-returns-8 (expr-kind-calls t) (expr-kind-at t) expr-kind.Post
-expr-kind-returns-8 t c = expr-8 _ _ _ _ _ _ _ _ _ _ (c .before .before .before .before .match .keys8) (c .before .before .before .skip-small3 .ensures) (c .before .before .skip4 .ensures) (c .before .read-node4 .ensures) (c .read-node5 .ensures)
+expr-kind-returns-8 t c = expr-8 _ _ _ _ _ _ _ _ _ _ (c .before .before .before .before .match .keys8) (c .before .before .before .skip-below3 .ensures) (c .before .before .skip4 .ensures) (c .before .read-node4 .ensures) (c .read-node5 .ensures)
 
 expr-kind-returns-9 : (t : ℕ) → expr-kind-lts.Need-returns-9 (expr-kind-calls t) (expr-kind-at t) expr-kind.Post
 expr-kind-returns-9 t c = expr-9 _ _ _ _ _ _ _ _ _ (c .before .before .before .match .keys9) (c .before .before .read-node6 .ensures) (c .before .read-node7 .ensures) (c .read-node8 .ensures)
@@ -323,13 +323,13 @@ fill-run-returns-2 : (t : ℕ) → fill-run-lts.Need-returns-2 (fill-run-calls t
 fill-run-returns-2 t c = fill-end _ _ _ _ _ _ (c .before .loop .inv) (c .loop-test .left)
 
 late-kind-returns : (t : ℕ) → late-kind-lts.Need-returns (late-kind-calls t) (late-kind-at t) late-kind.Post
-late-kind-returns t c = expr-10 _ _ _ _ _ _ _ _ _ (c .before .before .before .match .keys1) (c .before .before .skip .ensures) (c .before .skip-small .ensures) (c .read-node .ensures)
+late-kind-returns t c = expr-10 _ _ _ _ _ _ _ _ _ (c .before .before .before .match .keys1) (c .before .before .skip .ensures) (c .before .skip-below .ensures) (c .read-node .ensures)
 
 late-kind-returns-2 : (t : ℕ) → late-kind-lts.Need-returns-2 (late-kind-calls t) (late-kind-at t) late-kind.Post
-late-kind-returns-2 t c = expr-11 _ _ _ _ _ _ _ _ (c .before .before .match .keys2) (c .before .skip-small2 .ensures) (c .skip2 .ensures)
+late-kind-returns-2 t c = expr-11 _ _ _ _ _ _ _ _ (c .before .before .match .keys2) (c .before .skip-below2 .ensures) (c .skip2 .ensures)
 
 late-kind-returns-3 : (t : ℕ) → late-kind-lts.Need-returns-3 (late-kind-calls t) (late-kind-at t) late-kind.Post
-late-kind-returns-3 t c = expr-12 _ _ _ _ _ _ _ _ _ _ _ (c .before .before .before .before .before .match .keys3) (c .before .before .before .before .skip-small3 .ensures) (c .before .before .before .skip-small4 .ensures) (c .before .before .skip3 .ensures) (c .before .skip4 .ensures) (c .read-run .ensures)
+late-kind-returns-3 t c = expr-12 _ _ _ _ _ _ _ _ _ _ _ (c .before .before .before .before .before .match .keys3) (c .before .before .before .before .skip-below3 .ensures) (c .before .before .before .skip-below4 .ensures) (c .before .before .skip3 .ensures) (c .before .skip4 .ensures) (c .read-run .ensures)
 
 late-kind-returns-4 : (t : ℕ) → late-kind-lts.Need-returns-4 (late-kind-calls t) (late-kind-at t) late-kind.Post
 late-kind-returns-4 t c = expr-13 _ _ _ _ _ _ _ (c .before .match .keys4) (c .read-call .ensures)
@@ -338,7 +338,7 @@ late-kind-returns-5 : (t : ℕ) → late-kind-lts.Need-returns-5 (late-kind-call
 late-kind-returns-5 t c = expr-14 _ _ _ _ _ _ _ (c .before .match .keys5) (c .read-call2 .ensures)
 
 late-kind-returns-6 : (t : ℕ) → late-kind-lts.Need-returns-6 (late-kind-calls t) (late-kind-at t) late-kind.Post
-late-kind-returns-6 t c = expr-15 _ _ _ _ _ _ _ _ _ (c .before .before .before .match .keys6) (c .before .before .skip-small5 .ensures) (c .before .read-node2 .ensures) (c .read-call3 .ensures)
+late-kind-returns-6 t c = expr-15 _ _ _ _ _ _ _ _ _ (c .before .before .before .match .keys6) (c .before .before .skip-below5 .ensures) (c .before .read-node2 .ensures) (c .read-call3 .ensures)
 
 late-kind-returns-7 : (t : ℕ) → late-kind-lts.Need-returns-7 (late-kind-calls t) (late-kind-at t) late-kind.Post
 late-kind-returns-7 t c = expr-16 _ _ _ _ _ _ _ _ _ _ (c .before .before .before .before .match .keys7) (c .before .before .before .read-node3 .ensures) (c .before .before .skip5 .ensures) (c .before .skip6 .ensures) (c .read-run2 .ensures)
@@ -413,10 +413,10 @@ stmt-kind-returns-3 : (t : ℕ) → stmt-kind-lts.Need-returns-3 (stmt-kind-call
 stmt-kind-returns-3 t c = stmt-3 _ _ _ _ _ _ _ _ _ (c .before .before .match .keys3) (c .before .read-node2 .ensures) (c .read-run2 .ensures)
 
 stmt-kind-returns-4 : (t : ℕ) → stmt-kind-lts.Need-returns-4 (stmt-kind-calls t) (stmt-kind-at t) stmt-kind.Post
-stmt-kind-returns-4 t c = stmt-4 _ _ _ _ _ _ _ _ _ _ _ _ (c .before .before .before .before .before .match .keys4) (c .before .before .before .before .read-run3 .ensures) (c .before .before .before .small-field .ensures) (c .before .before .cursor-of .ensures) (c .before .value-of .ensures) (c .read-default .ensures)
+stmt-kind-returns-4 t c = stmt-4 _ _ _ _ _ _ _ _ _ _ _ _ (c .before .before .before .before .before .match .keys4) (c .before .before .before .before .read-run3 .ensures) (c .before .before .before .byte-below .ensures) (c .before .before .cursor-of .ensures) (c .before .value-of .ensures) (c .read-default .ensures)
 
 stmt-kind-returns-5 : (t : ℕ) → stmt-kind-lts.Need-returns-5 (stmt-kind-calls t) (stmt-kind-at t) stmt-kind.Post
-stmt-kind-returns-5 t c = stmt-5 _ _ _ _ _ _ _ _ _ _ _ _ _ _ _ (c .before .before .before .before .before .before .before .before .match .keys5) (c .before .before .before .before .before .before .before .skip .ensures) (c .before .before .before .before .before .before .read-node3 .ensures) (c .before .before .before .before .before .skip2 .ensures) (c .before .before .before .before .small-field2 .ensures) (c .before .before .before .cursor-of2 .ensures) (c .before .before .read-run4 .ensures) (c .before .value-of2 .ensures) (c .read-default2 .ensures)
+stmt-kind-returns-5 t c = stmt-5 _ _ _ _ _ _ _ _ _ _ _ _ _ _ _ (c .before .before .before .before .before .before .before .before .match .keys5) (c .before .before .before .before .before .before .before .skip .ensures) (c .before .before .before .before .before .before .read-node3 .ensures) (c .before .before .before .before .before .skip2 .ensures) (c .before .before .before .before .byte-below2 .ensures) (c .before .before .before .cursor-of2 .ensures) (c .before .before .read-run4 .ensures) (c .before .value-of2 .ensures) (c .read-default2 .ensures)
 
 stmt-kind-returns-6 : (t : ℕ) → stmt-kind-lts.Need-returns-6 (stmt-kind-calls t) (stmt-kind-at t) stmt-kind.Post
 stmt-kind-returns-6 t c = stmt-6 _ _ _ _ _ _ _ _ _ _ (c .before .before .before .match .keys6) (c .before .before .skip3 .ensures) (c .before .skip4 .ensures) (c .read-run5 .ensures)
@@ -431,7 +431,7 @@ stmt-kind-returns-9 : (t : ℕ) → stmt-kind-lts.Need-returns-9 (stmt-kind-call
 stmt-kind-returns-9 t c = stmt-9 _ _ _ _ _ _ _ _ (c .match .keys9) refl
 
 stmt-kind-returns-10 : (t : ℕ) → stmt-kind-lts.Need-returns-10 (stmt-kind-calls t) (stmt-kind-at t) stmt-kind.Post
-stmt-kind-returns-10 t c = stmt-10 _ _ _ _ _ _ _ _ _ _ _ (c .before .before .before .before .match .keys10) (c .before .before .before .small-field3 .ensures) (c .before .before .cursor-of3 .ensures) (c .before .value-of3 .ensures) (c .read-return .ensures)
+stmt-kind-returns-10 t c = stmt-10 _ _ _ _ _ _ _ _ _ _ _ (c .before .before .before .before .match .keys10) (c .before .before .before .byte-below3 .ensures) (c .before .before .cursor-of3 .ensures) (c .before .value-of3 .ensures) (c .read-return .ensures)
 
 stmt-kind-returns-11 : (t : ℕ) → stmt-kind-lts.Need-returns-11 (stmt-kind-calls t) (stmt-kind-at t) stmt-kind.Post
 stmt-kind-returns-11 t c = no-stmt _ _ _ _ _ _ _ _ (c .before .match .rest) (c .refuse-kind .ensures)
