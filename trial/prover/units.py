@@ -47,13 +47,13 @@ def from_file(path):
     return read(Path(path).read_text())
 
 
-def random_units(size, seed, count):
+def random_units(size, seed, count, low_limits):
     """Random units with the oracle's answers."""
     subprocess.run([TRIAL / "build"], check=True)
     hexes = subprocess.run([PROGRAMS / "generate", size, seed, count], stdout=subprocess.PIPE, check=True).stdout
     # a panic's own message goes to standard error: the answer says all that is needed
-    answers = subprocess.run([PROGRAMS / "oracle", "both"], input=hexes, stdout=subprocess.PIPE,
-                             stderr=subprocess.DEVNULL, check=True).stdout
+    command = [PROGRAMS / "oracle", "both", *(["--low-limits"] if low_limits else [])]
+    answers = subprocess.run(command, input=hexes, stdout=subprocess.PIPE, stderr=subprocess.DEVNULL, check=True).stdout
     return read(answers.decode())
 
 
@@ -62,12 +62,13 @@ def random_units(size, seed, count):
 def add_arguments(parser):
     parser.add_argument("units", nargs="+", help="a file in the oracle's form; or small, medium or big, a seed and a count")
     parser.add_argument("--named", nargs="+", metavar="NAME", help="take these units only; a random unit's name is its number")
+    parser.add_argument("--low-limits", action="store_true", help="with limits that short units meet, as a file's answers then are")
     parser.add_argument("--longest", type=int, default=500, metavar="BYTES", help="leave out longer units (%(default)s)")
 
 
 def given(options):
     """The units of a file, or of a size, a seed and a count; those that are named."""
-    units = random_units(*options.units) if len(options.units) == 3 else from_file(*options.units)
+    units = random_units(*options.units, options.low_limits) if len(options.units) == 3 else from_file(*options.units)
     return [unit for unit in units if not options.named or unit.name in options.named]
 
 

@@ -7,6 +7,8 @@ use redscript_compiler_backend::Labelled;
 use redscript_compiler_backend::assemble::AssembleError;
 use redscript_io::Instr;
 
+use crate::limits::Limits;
+use crate::makers::maker;
 use crate::program::{Error, Program};
 use crate::reader::{self, ExtraArguments, Refusal};
 use crate::record::Record;
@@ -27,18 +29,27 @@ impl Mode {
     }
 }
 
+/// What an answer depends on beside the unit.
+#[derive(Debug, Clone, Copy)]
+pub struct Options {
+    pub extra_arguments: ExtraArguments,
+    pub limits: Limits,
+}
+
 /// The answer for a unit, a line for each record and mark.
-pub fn answer(unit: &[u8], mode: Mode, extra_arguments: ExtraArguments) -> String {
-    match lines(unit, mode, extra_arguments) {
+pub fn answer(unit: &[u8], mode: Mode, options: Options) -> String {
+    match lines(unit, mode, options) {
         Ok(lines) => lines,
         Err(stop) => format!("{stop}\n"),
     }
 }
 
-fn lines(unit: &[u8], mode: Mode, extra_arguments: ExtraArguments) -> Result<String, Stop> {
-    let mut program = reader::read(unit, extra_arguments).map_err(Stop::Refused)?;
+fn lines(unit: &[u8], mode: Mode, options: Options) -> Result<String, Stop> {
+    let read = reader::read(unit, options.extra_arguments, None);
+    let mut program = read.map_err(Stop::Refused)?;
+    check_label_count(unit, &mut program, options)?;
     match mode {
-        Mode::Stage => Ok(stage_lines(&stage(&mut program)?)),
+        Mode::Stage => Ok(stage_lines(&stage(&mut program, options.limits)?)),
         Mode::Labelled => Ok(labelled_lines(&labelled(&mut program)?)),
     }
 }
@@ -67,10 +78,32 @@ impl fmt::Display for Stop {
     }
 }
 
-fn stage(program: &mut Program) -> Result<Vec<Instr>, Stop> {
+/// 15 at a limit that is lower than the assembler's own, at which it panics: the walk makes this
+/// label before it ends or is refused.
+fn check_label_count(unit: &[u8], program: &mut Program, options: Options) -> Result<(), Stop> {
+    let (made, _) = guarded(|| program.walk())?;
+    let limit = options.limits.labels;
+    if made.marks.len() <= limit {
+        return Ok(());
+    }
+    Err(Stop::Refused(Refusal {
+        number: 15,
+        place: maker(unit, limit, options.extra_arguments),
+        extra: 0,
+    }))
+}
+
+fn stage(program: &mut Program, limits: Limits) -> Result<Vec<Instr>, Stop> {
     match guarded(|| program.code())? {
-        Ok(code) => Ok(code),
-        Err(AssembleError::LabelTooDistant) => Err(Stop::Refused(too_distant(&labelled(program)?))),
+        Ok(code) => match too_distant(code.iter().map(Record::resolved), limits) {
+            Some(refusal) => Err(Stop::Refused(refusal)),
+            None => Ok(code),
+        },
+        Err(AssembleError::LabelTooDistant) => {
+            let labelled = labelled(program)?;
+            let refusal = too_distant(measured(&labelled), limits);
+            Err(Stop::Refused(refusal.expect("some distance is too long")))
+        }
         Err(error) => Err(Stop::Refused(refusal(&error))),
     }
 }
@@ -108,25 +141,32 @@ fn refusal(error: &Error) -> Refusal {
 }
 
 /// The assembler does not say which distance is too long: the first in the order of records is
-/// searched here.
-fn too_distant(labelled: &Labelled) -> Refusal {
+/// searched here, a record's first before its second.
+fn too_distant(records: impl Iterator<Item = Record>, limits: Limits) -> Option<Refusal> {
+    records.enumerate().find_map(|(place, record)| {
+        let distances = [record.first, record.second];
+        let used = &distances[..record.locations];
+        let extra = used.iter().position(|&distance| !limits.reach(distance))?;
+        Some(Refusal {
+            number: 32,
+            place,
+            extra,
+        })
+    })
+}
+
+/// The records of labelled code with distances in place of label numbers. Resolved code has them
+/// by itself, but there is none where one is too long.
+fn measured(labelled: &Labelled) -> impl Iterator<Item = Record> {
     let mut start = 0;
-    for (place, (parts, size)) in labelled.code.iter().enumerate() {
-        let record = Record::labelled(parts);
-        let labels = [record.first, record.second];
-        for (extra, label) in labels[..record.locations].iter().enumerate() {
-            let mark = i64::from(labelled.marks[*label as usize]);
-            if i16::try_from(mark - start).is_err() {
-                return Refusal {
-                    number: 32,
-                    place,
-                    extra,
-                };
-            }
+    labelled.code.iter().map(move |(parts, size)| {
+        let mut record = Record::labelled(parts);
+        for label in record.locations_mut() {
+            *label = i64::from(labelled.marks[*label as usize]) - start;
         }
         start += i64::from(*size);
-    }
-    unreachable!("some distance should be too long")
+        record
+    })
 }
 
 fn stage_lines(code: &[Instr]) -> String {

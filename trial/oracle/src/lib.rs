@@ -3,6 +3,8 @@
 pub mod answer;
 pub mod cases;
 pub mod generate;
+pub mod limits;
+pub mod makers;
 pub mod program;
 pub mod random;
 pub mod reader;

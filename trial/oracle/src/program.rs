@@ -21,18 +21,30 @@ pub struct Program {
     block: ir::Block<'static>,
     definitions: Definitions,
     function: PoolFunctionIndex,
+    /// The places of its nodes, in the order of reading: a node before those in it.
+    nodes: Vec<usize>,
 }
 
 pub type Error = AssembleError<'static>;
 
 impl Program {
-    pub fn new(block: ir::Block<'static>, mut definitions: Definitions, returns: bool) -> Self {
+    pub fn new(
+        block: ir::Block<'static>,
+        nodes: Vec<usize>,
+        mut definitions: Definitions,
+        returns: bool,
+    ) -> Self {
         let function = definitions.add_enclosing_function(returns);
         Self {
             block,
             definitions,
             function,
+            nodes,
         }
+    }
+
+    pub fn nodes(&self) -> &[usize] {
+        &self.nodes
     }
 
     /// Resolved code, by the public way in.
@@ -50,10 +62,10 @@ impl Program {
             .build()
     }
 
-    /// Labelled code and marks, by way of the closure module.
-    pub fn labelled(&mut self) -> Result<Labelled, Error> {
+    /// Labelled code and marks, by way of the closure module; up to the error, if there is one.
+    pub fn walk(&mut self) -> (Labelled, Result<(), Error>) {
         let definitions = &mut self.definitions;
-        Labelled::assemble(
+        Labelled::walk(
             self.function,
             definitions.locals(),
             definitions.captures(),
@@ -62,6 +74,12 @@ impl Program {
             &mut definitions.bundle,
             &mut Monomorphizer::new(definitions.lines.clone()),
         )
+    }
+
+    /// The same, if there is no error.
+    pub fn labelled(&mut self) -> Result<Labelled, Error> {
+        let (labelled, end) = self.walk();
+        end.map(|()| labelled)
     }
 }
 

@@ -11,6 +11,9 @@ const MAX_UNIT: usize = 1_048_576;
 const FRONT: usize = 6;
 const MAX_DEPTH: u32 = 200;
 
+const EQUALS: u8 = 0;
+const VARIANT_IS_DEFINED: u8 = 24;
+
 /// Number, place and extra.
 #[derive(Debug, Clone, Copy, PartialEq, Eq)]
 pub struct Refusal {
@@ -42,7 +45,24 @@ pub enum ExtraArguments {
     Pass,
 }
 
-pub fn read(unit: &[u8], extra_arguments: ExtraArguments) -> Read<Program> {
+/// Where the tree holds something that the unit does not: an expression that the assembler
+/// refuses, so that its walk ends there.
+#[derive(Debug, Clone, Copy, PartialEq, Eq)]
+pub enum Barrier {
+    /// In place of the node at this place.
+    Before(usize),
+    /// Behind the node at this place.
+    After(usize),
+}
+
+/// The span of the barrier; no node stands there.
+pub const BARRIER: Span = Span { start: u32::MAX };
+
+pub fn read(
+    unit: &[u8],
+    extra_arguments: ExtraArguments,
+    barrier: Option<Barrier>,
+) -> Read<Program> {
     let front_fits = (FRONT..=MAX_UNIT).contains(&unit.len())
         && unit[0] == 1
         && unit[1..5] == ((unit.len() - 5) as u32).to_be_bytes()
@@ -53,6 +73,8 @@ pub fn read(unit: &[u8], extra_arguments: ExtraArguments) -> Read<Program> {
     let mut reader = Reader {
         unit,
         extra_arguments,
+        barrier,
+        nodes: vec![],
         definitions: Definitions::default(),
     };
     let mut part = Part {
@@ -64,7 +86,10 @@ pub fn read(unit: &[u8], extra_arguments: ExtraArguments) -> Read<Program> {
     if part.at != part.end {
         return Err(Refusal::new(3, FRONT));
     }
-    Ok(Program::new(block, reader.definitions, unit[5] == 1))
+    let Reader {
+        nodes, definitions, ..
+    } = reader;
+    Ok(Program::new(block, nodes, definitions, unit[5] == 1))
 }
 
 /// A stretch of the unit that is being read: a node's rest or a run's items.
@@ -96,6 +121,8 @@ impl Node {
 struct Reader<'a> {
     unit: &'a [u8],
     extra_arguments: ExtraArguments,
+    barrier: Option<Barrier>,
+    nodes: Vec<usize>,
     definitions: Definitions,
 }
 
@@ -145,8 +172,9 @@ impl Reader<'_> {
     }
 
     /// The front of a node: its length, and its kind.
-    fn node(&self, part: &mut Part) -> Read<(u8, Node)> {
+    fn node(&mut self, part: &mut Part) -> Read<(u8, Node)> {
         let place = part.at;
+        self.nodes.push(place);
         if part.depth > MAX_DEPTH {
             return Err(Refusal::new(4, place));
         }
@@ -220,7 +248,19 @@ impl Reader<'_> {
             _ => return node.refuse(2),
         };
         self.end(&node)?;
-        Ok(stmt)
+        Ok(self.barred_stmt(stmt, node.place))
+    }
+
+    /// The statement, or the barrier, or both.
+    fn barred_stmt(&mut self, stmt: Stmt, place: usize) -> Stmt {
+        match self.barrier {
+            Some(Barrier::Before(at)) if at == place => self.barrier_expr().into(),
+            Some(Barrier::After(at)) if at == place => {
+                let barrier = self.barrier_expr().into();
+                Stmt::Block(Block::new(vec![stmt, barrier]), BARRIER)
+            }
+            _ => stmt,
+        }
     }
 
     fn conditional_block(&mut self, part: &mut Part) -> Read<ir::ConditionalBlock<'static>> {
@@ -324,7 +364,34 @@ impl Reader<'_> {
             _ => return node.refuse(2),
         };
         self.end(&node)?;
-        Ok(expr)
+        Ok(self.barred_expr(expr, node.place))
+    }
+
+    /// The expression, or the barrier, or both.
+    fn barred_expr(&mut self, expr: Expr, place: usize) -> Expr {
+        match self.barrier {
+            Some(Barrier::Before(at)) if at == place => self.barrier_expr(),
+            Some(Barrier::After(at)) if at == place => {
+                let span = expr.span();
+                let args = [expr, self.barrier_expr()];
+                self.untyped_intrinsic(VARIANT_IS_DEFINED, args.into(), span)
+            }
+            _ => expr,
+        }
+    }
+
+    /// An intrinsic without the type argument that it needs.
+    fn barrier_expr(&mut self) -> Expr {
+        self.untyped_intrinsic(EQUALS, Box::default(), BARRIER)
+    }
+
+    fn untyped_intrinsic(&mut self, code: u8, args: Box<[Expr]>, span: Span) -> Expr {
+        let call = ir::Call::FreeFunction {
+            function: self.definitions.intrinsic(code, false),
+            type_args: Box::default(),
+            args,
+        };
+        Expr::call(call, span)
     }
 
     fn constant(&mut self, node: &mut Node) -> Read<ir::Const<'static>> {

@@ -53,6 +53,13 @@ impl Record {
         record
     }
 
+    /// The used ones of `first` and `second`.
+    pub fn locations_mut(&mut self) -> impl Iterator<Item = &mut i64> {
+        [&mut self.first, &mut self.second]
+            .into_iter()
+            .take(self.locations)
+    }
+
     fn put(&mut self, place: Place, field: u64) {
         match place {
             Place::Small => self.small = field,

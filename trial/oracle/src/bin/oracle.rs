@@ -4,11 +4,13 @@ use std::io::{self, Read, Write};
 use std::process::ExitCode;
 use std::{env, fs, thread};
 
-use oracle::answer::{Mode, answer};
+use oracle::answer::{Mode, Options, answer};
 use oracle::cases::{self, Case};
+use oracle::limits::Limits;
 use oracle::reader::ExtraArguments;
 
-const USAGE: &str = "usage: oracle stage|labelled|both|check [--pass-extra-arguments] [FILE]";
+const USAGE: &str =
+    "usage: oracle stage|labelled|both|check [--low-limits] [--pass-extra-arguments] [FILE]";
 
 /// Enough for trees of depth 200.
 const STACK: usize = 1 << 28;
@@ -29,7 +31,7 @@ fn fail(message: &str) -> ExitCode {
 
 fn run() -> Result<ExitCode, String> {
     let mut args: Vec<String> = env::args().skip(1).collect();
-    let extra_arguments = take_option(&mut args, "--pass-extra-arguments");
+    let options = take_options(&mut args);
     let (command, file) = match &args[..] {
         [command] => (command, None),
         [command, file] => (command, Some(file)),
@@ -37,23 +39,34 @@ fn run() -> Result<ExitCode, String> {
     };
     let cases = cases::parse(&read(file)?)?;
     match command.as_str() {
-        "stage" => print(&cases, &[Mode::Stage], extra_arguments),
-        "labelled" => print(&cases, &[Mode::Labelled], extra_arguments),
-        "both" => print(&cases, &[Mode::Stage, Mode::Labelled], extra_arguments),
-        "check" => return check(&cases, extra_arguments),
+        "stage" => print(&cases, &[Mode::Stage], options),
+        "labelled" => print(&cases, &[Mode::Labelled], options),
+        "both" => print(&cases, &[Mode::Stage, Mode::Labelled], options),
+        "check" => return check(&cases, options),
         _ => return Err(USAGE.to_string()),
     }
     .map_err(|error| error.to_string())?;
     Ok(ExitCode::SUCCESS)
 }
 
-fn take_option(args: &mut Vec<String>, option: &str) -> ExtraArguments {
+fn take_options(args: &mut Vec<String>) -> Options {
+    Options {
+        extra_arguments: match take_option(args, "--pass-extra-arguments") {
+            true => ExtraArguments::Pass,
+            false => ExtraArguments::Refuse,
+        },
+        limits: match take_option(args, "--low-limits") {
+            true => Limits::LOW,
+            false => Limits::REAL,
+        },
+    }
+}
+
+/// Whether it is there.
+fn take_option(args: &mut Vec<String>, option: &str) -> bool {
     let count = args.len();
     args.retain(|arg| arg != option);
-    match args.len() == count {
-        true => ExtraArguments::Refuse,
-        false => ExtraArguments::Pass,
-    }
+    args.len() < count
 }
 
 fn read(file: Option<&String>) -> Result<String, String> {
@@ -68,12 +81,12 @@ fn read(file: Option<&String>) -> Result<String, String> {
 }
 
 /// Prints every unit with its answers, in the form of cases.txt.
-fn print(cases: &[Case], modes: &[Mode], extra_arguments: ExtraArguments) -> io::Result<()> {
+fn print(cases: &[Case], modes: &[Mode], options: Options) -> io::Result<()> {
     let mut out = io::BufWriter::new(io::stdout().lock());
     for case in cases {
         out.write_all(case.head().as_bytes())?;
         for &mode in modes {
-            let answer = answer(&case.unit, mode, extra_arguments);
+            let answer = answer(&case.unit, mode, options);
             write!(out, "{}\n{answer}", mode.name())?;
         }
         writeln!(out)?;
@@ -82,11 +95,11 @@ fn print(cases: &[Case], modes: &[Mode], extra_arguments: ExtraArguments) -> io:
 }
 
 /// Compares every answer of the file with the oracle's own.
-fn check(cases: &[Case], extra_arguments: ExtraArguments) -> Result<ExitCode, String> {
+fn check(cases: &[Case], options: Options) -> Result<ExitCode, String> {
     let (mut same, mut different) = (0, 0);
     for case in cases {
         for (mode, expected) in &case.expected {
-            let found = answer(&case.unit, *mode, extra_arguments);
+            let found = answer(&case.unit, *mode, options);
             if found == *expected {
                 same += 1;
             } else {

@@ -22,8 +22,9 @@ pub(super) fn emit_closure<'ctx>(
 }
 
 impl Labelled {
-    /// Does what `block_builder` does, up to `into_code`.
-    pub fn assemble<'ctx>(
+    /// Does what `block_builder` does, up to `into_code`. Where the walk is refused, it gives what
+    /// was made until then, with the error.
+    pub fn walk<'ctx>(
         function_index: FunctionIndex,
         locals: Vec<ir::LocalInfo<'ctx>>,
         captures: Vec<(ir::Local, FieldIndex)>,
@@ -31,7 +32,7 @@ impl Labelled {
         symbols: &Symbols<'ctx>,
         bundle: &mut ScriptBundle<'ctx>,
         monomorphizer: &mut Monomorphizer<'ctx>,
-    ) -> Result<Self, AssembleError<'ctx>> {
+    ) -> (Self, Result<(), AssembleError<'ctx>>) {
         let type_env = ScopedMap::<&'ctx str, MonoType<'ctx>>::default();
         let mut assembler = Assembler::builder()
             .function_index(function_index)
@@ -41,13 +42,15 @@ impl Labelled {
             .type_env(&type_env)
             .bundle(bundle)
             .monomorphizer(monomorphizer)
-            .build()?;
-        assembler.assemble_block(block, None)?;
-        Ok(Self {
+            .build()
+            .expect("every local should coalesce");
+        let end = assembler.assemble_block(block, None);
+        let made = Self {
             code: assembler.code.iter().map(parts).collect(),
             marks: assembler.labels.into_values(),
             size: assembler.virtual_offset,
-        })
+        };
+        (made, end)
     }
 }
 
