@@ -14,6 +14,7 @@ use Rattle.definitions.specs.Tree.{Script}
 use Rattle.definitions.specs.Code.{Action, new, mark, emit, refuse, Code, done, act, _then_, label, State, newLabel, markLabel, emitRecord, step, execute, start, unmarked, labelLimit}
 use Rattle.definitions.specs.Lower.{outside, codeOf, lower}
 use Rattle.laws.proofs.Inversion.{refusal-not-made}
+use Rattle.laws.proofs.Results.{onward-made, onward-assoc, onward-same}
 use Rattle.landing.specs.Distance.{sizeOf, distancesOf}
 use Rattle.landing.specs.Walk.{news, actions, actionsOf, exec}
 use Rattle.landing.proofs.Pieces.{records, total, dists, Agrees, Scoped, hit, count, below, Piece, hit-yes, below-yes, below-no}
@@ -100,26 +101,10 @@ exec-agrees d (refuse n p x ∷ acts) s s′ e once sc = refusal-not-made e
 
 -- 2. Running a piece is running its actions
 
-onward-made : (r : Result State) → onward r (λ s. made s) ≡ r
-unfolding onward
-onward-made (made s) = refl
-onward-made (refusal n p x) = refl
-
-after-both : (r : Result State) (f g h : State → Result State) → ((t : State) → h t ≡ onward (f t) g) → onward r h ≡ onward (onward r f) g
-unfolding onward
-after-both (made t) f g h e = e t
-after-both (refusal n p x) f g h e = refl
-
 exec-append : (a b : List Action) (s : State) → exec (a ++ b) s ≡ onward (exec a s) (exec b)
 unfolding exec onward
 exec-append [] b s = refl
-exec-append (x ∷ a) b s = after-both (step x s) (exec a) (exec b) (exec (a ++ b)) (λ t. exec-append a b t)
-
--- both go on alike, where the rest is the same after each state that may come
-onward-same : (r : Result State) (f g : State → Result State) → ((t : State) → r ≡ made t → f t ≡ g t) → onward r f ≡ onward r g
-unfolding onward
-onward-same (made t) f g h = h t refl
-onward-same (refusal n p x) f g h = refl
+exec-append (x ∷ a) b s = onward-same (step x s) _ _ (λ t e. exec-append a b t) ∙ sym (onward-assoc (step x s) (exec a) (exec b))
 
 made-one : (at : ℕ) (s t : State) → step (new at) s ≡ made t → length (t .marks) ≡ length (s .marks) + 1
 unfolding exec news

@@ -1,5 +1,6 @@
 -- Laws of the definitions and of tables that several crates cite.
 pub mod Inversion
+pub mod Results
 pub mod Tables
 pub mod Sizes
 pub mod Picked

@@ -1,0 +1,214 @@
+-- The whole of `lower`: from what the reader, the dry walk and the real one ensure. Assumes nothing.
+use Prim.Native.Nat.{ℕ, _+_, _-_, _*_, _^_, _≤_, _<_}
+use mathlib.Core.Path.{_≡_, refl, sym, ap, _∙_}
+use mathlib.Core.List.{List, [], _∷_, _++_, append-assoc}
+use mathlib.Core.Bool.{Bool, true, false}
+use native.Mathlib.Omega.{arith}
+use lib.Dec.{leb}
+use lib.ListN.{length, getD, take, drop, length-append, length-drop}
+use lib.Seq.{length-take-le, drop-at}
+use borrow.Author.Tests.{le-leb, lt-leb}
+use borrow.Rule.Slice.PartMut.{putMid, put-same}
+use Rattle.definitions.specs.Answer.{Answer, ok, refused, Result, made, refusal, onward, checked}
+use Rattle.definitions.specs.Bytes.{bytes}
+use Rattle.definitions.specs.Instr.{Instr}
+use Rattle.definitions.specs.Tree.{Script, blockOf}
+use Rattle.definitions.specs.Read.{filling, parseStmt, parseUnit}
+use Rattle.definitions.specs.Code.{Code, State}
+use Rattle.definitions.specs.Lower.{lowerBlock, outside}
+use Rattle.definitions.specs.Lower as Lower
+use Rattle.definitions.specs.Listing.{listingLength, recordsBytes, listingBytes, recordLimit}
+use Rattle.definitions.specs.Stage.{labelled, lowered, lowerInto, over}
+use Rattle.instr.specs.Values.{frontFits, frontWritten}
+use Rattle.ir.specs.Verdict.{scripted}
+use Rattle.ir.specs.declared.Refusal.{Refusal}
+use Rattle.ir.specs.declared.ReadUnit.{ReadUnit}
+use Rattle.ir.specs.declared.ReadUnit.the-variants.{Reads, Fails}
+use Rattle.ir.specs.declared.Class.the-variants.{Statement}
+use Rattle.ir.proofs.UnitPlaces.{unit-at}
+use Rattle.steps.specs.Running.{Cells, run}
+use Rattle.steps.specs.Walked.{Accepted, codeOf, fillCode, ran, targetOf, spanOf, Did}
+use Rattle.assemble.specs.Whole.{unitCode, zeros, answer, lowerTo}
+use Rattle.assemble.specs.declared
+use Rattle.steps.specs.declared.Counters.{Counters}
+use Rattle.steps.specs.declared.Target.the-variants.{Nowhere}
+use Rattle.steps.specs.declared.Walk.{Walk}
+use Rattle.steps.specs.declared.Walk.the-variants.{Going, Stopped}
+use Rattle.assemble.specs.declared.Lowered.the-variants.{Done, Refused}
+use Rattle.assemble.proofs.StmtCode.{block-code}
+use Rattle.assemble.proofs.MidLaws.{code-is}
+use Rattle.laws.proofs.Inversion.{refusal-not-made}
+use Rattle.laws.proofs.Results.{made-is}
+use Rattle.assemble.proofs.WholeLaws.{length-records, Totals, unit-stopped, unit-totals, unit-wrote}
+
+-- 1. What the reader says of a unit
+
+abbrev room : (bytes words : ℕ) → State → Result State
+room a b l = checked (leb (listingLength (length (l .instrs))) a) 20 0 0 (checked (leb (length (l .marks)) b) 21 0 0 (made l))
+
+pub read-refused : (s : List ℕ) (a b : ℕ) (r : ReadUnit) (q : Refusal) (o m : List ℕ) → r ≡ Fails q → r ≡ scripted (parseUnit s) → answer (Refused q) o m ≡ lowerTo (lowerInto s a b) o m
+unfolding answer lowerTo lowerInto lowered onward scripted
+read-refused s a b r q o m d e = go (parseUnit s) (sym d ∙ e)
+  where
+    go : (x : Answer Script) → Fails q ≡ scripted x → answer (Refused q) o m ≡ lowerTo (onward (lowered x) (room a b)) o m
+    go (ok u n) f = cc
+    go (refused n p x) f = cc
+
+pub read-accepted : (s : List ℕ) (r : ReadUnit) (v n : ℕ) → r ≡ Reads v n → r ≡ scripted (parseUnit s) → Accepted (parseUnit s)
+unfolding scripted
+read-accepted s r v n d e = go (parseUnit s) (sym d ∙ e)
+  where
+    go : (x : Answer Script) → Reads v n ≡ scripted x → Accepted x
+    go (ok u k) f = (u, k, refl)
+    go (refused k p x) f = let z : _≡_ {A = ℕ} 0 1 = cc in absurd (omega arith)
+
+-- 2. A unit is a run of statements
+
+pub record UnitHere (s : List ℕ) : Type 0 where
+  pub head : 10 ≤ length s
+  pub reads : Accepted (filling (parseStmt 200 s) (length s) 10)
+  pub code : unitCode s ≡ fillCode Statement 200 s (length s) 10 (outside (getD s 5 0))
+
+pub unit-here : (s : List ℕ) → Accepted (parseUnit s) → UnitHere s
+unit-here s acc =
+    let k = unit-at s (acc .0) (acc .1) (acc .2) in
+    record {
+      head = k .run .head;
+      reads = (k .body, length s, k .run .reads);
+      code = code-is (λ u. Lower.codeOf u) (parseUnit s) (acc .0) (acc .1) (acc .2) ∙ ap (λ u. Lower.codeOf u) (k .tree) ∙ sym (block-code 200 s (length s) 10 (outside (getD s 5 0)) (k .body) (length s) (k .run .reads));
+    }
+
+abbrev zero-walk : Walk
+zero-walk = Going (record { offset = 0; labels = 0; count = 0 })
+
+pub real-did : (s : List ℕ) (returns : ℕ) (r : Walk) (o m o′ m′ : List ℕ) → Accepted (parseUnit s) → returns ≡ getD s 5 0 →
+    Did (fillCode Statement 200 s (length s) 10 (spanOf (record { «break_target» = Nowhere; «continue_target» = Nowhere; returns = returns }))) zero-walk o m r o′ m′ → ran r o′ m′ ≡ run (unitCode s) (zeros o m)
+unfolding ran onward spanOf targetOf
+real-did s returns r o m o′ m′ acc e d =
+    d .same ∙ ap (λ n. run (fillCode Statement 200 s (length s) 10 (outside n)) (zeros o m)) e ∙ ap (λ c. run c (zeros o m)) (sym (unit-here s acc .code))
+
+-- 3. A dry walk writes nothing
+
+none-left : (l : List ℕ) → length l ≡ 0 → l ≡ []
+none-left [] e = refl
+none-left (x ∷ l) e = absurd (omega (arith, e))
+
+pub dry-did : (code : Code) (r : Walk) (o′ m′ : List ℕ) → length o′ ≡ 0 → length m′ ≡ 0 → ran r o′ m′ ≡ run code (zeros [] []) → (ran r [] [] ≡ run code (zeros [] [])) × (o′ ≡ []) × (m′ ≡ [])
+dry-did code r o′ m′ u v e =
+    let a = none-left o′ u in
+    let b = none-left m′ v in
+    (rw (a, b) at e, a, b)
+
+pub put-none : (l p : List ℕ) → p ≡ [] → putMid 0 0 l p ≡ l
+put-none l p e = rw e (put-same 0 0 l)
+
+-- 4. The listing
+
+over-is : (w b : List ℕ) (n : ℕ) → length w ≡ n → over w b ≡ w ++ drop n b
+unfolding over
+over-is w b n e = ap (λ k. w ++ drop k b) e
+
+front-is : (n : ℕ) (o : List ℕ) → n ≤ recordLimit → 5 ≤ length o → frontWritten n o ≡ (1 ∷ bytes 4 (18 * n)) ++ drop 5 o
+unfolding frontWritten frontFits
+front-is n o m h = rw (frontWritten, frontFits, le-leb n recordLimit m, le-leb 5 (length o) h)
+
+listing-is : (is : List Instr) → listingBytes is ≡ (1 ∷ bytes 4 (18 * length is)) ++ recordsBytes is
+unfolding listingBytes
+listing-is is = refl
+
+listing-long : (is : List Instr) → length (listingBytes is) ≡ listingLength (length is)
+unfolding listingBytes bytes
+listing-long is = omega (arith, length-records is)
+
+front-over : (n : ℕ) (is : List Instr) (o o₂ : List ℕ) → n ≡ length is → length is ≤ recordLimit → listingLength (length is) ≤ length o →
+    o₂ ≡ (take 5 o ++ recordsBytes is) ++ drop (listingLength (length is)) o → frontWritten n o₂ ≡ over (listingBytes is) o
+front-over n is o o₂ e few h q =
+    let front : length (take 5 o) ≡ 5 = length-take-le 5 o (omega (arith, h)) in
+    let D = drop (listingLength (length is)) o in
+    let R = recordsBytes is in
+    let F : List ℕ = 1 ∷ bytes 4 (18 * length is) in
+    let z : o₂ ≡ take 5 o ++ (R ++ D) = q ∙ append-assoc (take 5 o) R D in
+    let long : 5 ≤ length o₂ = omega (arith, ap length z, length-append (take 5 o) (R ++ D), front) in
+    let d : drop 5 o₂ ≡ R ++ D = ap (drop 5) z ∙ drop-at (take 5 o) (R ++ D) 5 front in
+    front-is n o₂ (omega (arith, e, few)) long ∙ ap {B = List ℕ} (λ k. (1 ∷ bytes 4 (18 * k)) ++ drop 5 o₂) e ∙ ap (λ y. F ++ y) d ∙ sym (append-assoc F R D)
+    ∙ ap (λ y. y ++ D) (sym (listing-is is)) ∙ sym (over-is (listingBytes is) o _ (listing-long is))
+
+-- 5. What `lower` answers
+
+refused-is : (s : List ℕ) (a b n p x : ℕ) → labelled s ≡ refusal n p x → lowerInto s a b ≡ refusal n p x
+unfolding lowerInto onward
+refused-is s a b n p x e = ap {B = Result State} (λ y. onward y (room a b)) e
+
+room-is : (s : List ℕ) (a b : ℕ) (t : State) → labelled s ≡ made t → lowerInto s a b ≡ room a b t
+unfolding lowerInto onward
+room-is s a b t e = ap {B = Result State} (λ y. onward y (room a b)) e
+
+stopped-answer : (n : Refusal) (x : Result State) (o m : List ℕ) → x ≡ refusal (n .number) (n .place) (n .extra) → answer (Refused n) o m ≡ lowerTo x o m
+unfolding answer lowerTo
+stopped-answer n x o m e = rw e
+
+done-answer : (d : Counters) (t : State) (x : Result State) (o m o₃ m₂ : List ℕ) → x ≡ made t → d .offset ≡ t .offset → d .labels ≡ length (t .marks) → d .count ≡ length (t .instrs) →
+    o₃ ≡ over (listingBytes (t .instrs)) o → m₂ ≡ over (t .marks) m → answer (Done d) o₃ m₂ ≡ lowerTo x o m
+unfolding answer lowerTo
+done-answer d t x o m o₃ m₂ e a b c f g = rw (e, a, b, c, f, g)
+
+module _ (s o m o₁ m₁ : List ℕ) (r : Walk) (acc : Accepted (parseUnit s)) (dry : (ran r [] [] ≡ run (unitCode s) (zeros [] [])) × (o₁ ≡ o) × (m₁ ≡ m)) where
+  abbrev theAnswer : Result State
+  theAnswer = lowerInto s (length o) (length m)
+
+  same-code : unitCode s ≡ Lower.codeOf (acc .0)
+  same-code = code-is (λ u. Lower.codeOf u) (parseUnit s) (acc .0) (acc .1) (acc .2)
+
+  halted-is : (z : Walk) (n : Refusal) (o₂ m₂ o₃ m₃ : List ℕ) → z ≡ Stopped n → ran z o₂ m₂ ≡ run (unitCode s) (zeros o₃ m₃) → labelled s ≡ refusal (n .number) (n .place) (n .extra)
+  unfolding ran
+  halted-is z n o₂ m₂ o₃ m₃ e w =
+      unit-stopped s (acc .0) (acc .1) (acc .2) o₃ m₃ (n .number) (n .place) (n .extra) (ap (λ c. run c (zeros o₃ m₃)) (sym same-code) ∙ sym w ∙ ap (λ y. ran y o₂ m₂) e)
+
+  abbrev cellsOf : Counters → (out marks : List ℕ) → Cells
+  cellsOf k o₂ m₂ = record { offset = k .offset; labels = k .labels; count = k .count; out = o₂; marks = m₂ }
+
+  runs-to : (z : Walk) (k : Counters) (o₂ m₂ o₃ m₃ : List ℕ) → z ≡ Going k → ran z o₂ m₂ ≡ run (unitCode s) (zeros o₃ m₃) → run (Lower.codeOf (acc .0)) (zeros o₃ m₃) ≡ made (cellsOf k o₂ m₂)
+  unfolding ran
+  runs-to z k o₂ m₂ o₃ m₃ e w = ap (λ c. run c (zeros o₃ m₃)) (sym same-code) ∙ sym w ∙ ap (λ y. ran y o₂ m₂) e
+
+  pub answer-stopped : (n : Refusal) → r ≡ Stopped n → answer (Refused n) o₁ m₁ ≡ lowerTo theAnswer o m
+  answer-stopped n e = rw (dry .1, dry .2) (stopped-answer n theAnswer o m (refused-is s (length o) (length m) _ _ _ (halted-is r n [] [] [] [] e (dry .0))))
+
+  module _ (k : Counters) (e : r ≡ Going k) where
+    totals : Totals s (acc .0) (acc .1) (acc .2) (cellsOf k [] [])
+    totals = unit-totals s (acc .0) (acc .1) (acc .2) [] [] (cellsOf k [] []) (runs-to r k [] [] [] [] e (dry .0))
+
+    pub answer-20 : length o₁ < 5 + 18 * k .count → answer (Refused (record { number = 20; place = 0; extra = 0 })) o₁ m₁ ≡ lowerTo theAnswer o m
+    unfolding checked
+    answer-20 h =
+        let t = totals in
+        let g : length o < listingLength (length (t .state .instrs)) = omega (arith, h, ap length (dry .1), t .count) in
+        rw (dry .1, dry .2) (stopped-answer _ theAnswer o m (room-is s (length o) (length m) (t .state) (t .whole) ∙ rw (lt-leb (listingLength (length (t .state .instrs))) (length o) g)))
+
+    pub answer-21 : 5 + 18 * k .count ≤ length o₁ → length m₁ < k .labels → answer (Refused (record { number = 21; place = 0; extra = 0 })) o₁ m₁ ≡ lowerTo theAnswer o m
+    unfolding checked
+    answer-21 h l =
+        let t = totals in
+        let g : listingLength (length (t .state .instrs)) ≤ length o = omega (arith, h, ap length (dry .1), t .count) in
+        let f : length m < length (t .state .marks) = omega (arith, l, ap length (dry .2), t .labels) in
+        rw (dry .1, dry .2) (stopped-answer _ theAnswer o m (room-is s (length o) (length m) (t .state) (t .whole) ∙ rw (le-leb (listingLength (length (t .state .instrs))) (length o) g, lt-leb (length (t .state .marks)) (length m) f)))
+
+    pub answer-never : {X : Type 0} (z : Walk) (n : Refusal) (o₂ m₂ : List ℕ) → z ≡ Stopped n → ran z o₂ m₂ ≡ run (unitCode s) (zeros o₁ m₁) → X
+    answer-never z n o₂ m₂ q w = refusal-not-made (sym (sym (totals .whole) ∙ halted-is z n o₂ m₂ o₁ m₁ q w))
+
+    pub answer-done : (z : Walk) (d : Counters) (o₂ m₂ o₃ : List ℕ) → z ≡ Going d → 5 + 18 * k .count ≤ length o₁ → k .labels ≤ length m₁ →
+        ran z o₂ m₂ ≡ run (unitCode s) (zeros o₁ m₁) → o₃ ≡ frontWritten (d .count) o₂ → answer (Done d) o₃ m₂ ≡ lowerTo theAnswer o m
+    unfolding checked
+    answer-done z d o₂ m₂ o₃ q h l w f =
+        let x = runs-to z d o₂ m₂ o m q (rw (dry .1, dry .2) at w) in
+        let j = totals in
+        let t = unit-totals s (acc .0) (acc .1) (acc .2) o m (cellsOf d o₂ m₂) x in
+        let u : j .state ≡ t .state = made-is (sym (j .walks-to) ∙ t .walks-to) in
+        let c : k .count ≡ length (t .state .instrs) = j .count ∙ ap (λ (y : State). length (y .instrs)) u in
+        let b : k .labels ≡ length (t .state .marks) = j .labels ∙ ap (λ (y : State). length (y .marks)) u in
+        let g : listingLength (length (t .state .instrs)) ≤ length o = omega (arith, h, ap length (dry .1), c) in
+        let v : length (t .state .marks) ≤ length m = omega (arith, l, ap length (dry .2), b) in
+        let y = unit-wrote s (acc .0) (acc .1) (acc .2) o m (cellsOf d o₂ m₂) x t g v in
+        let n : o₃ ≡ over (listingBytes (t .state .instrs)) o = f ∙ front-over (d .count) (t .state .instrs) o o₂ (t .count) (t .few) g (y .out) in
+        let p : theAnswer ≡ made (t .state) = room-is s (length o) (length m) (t .state) (t .whole) ∙ rw (le-leb (listingLength (length (t .state .instrs))) (length o) g, le-leb (length (t .state .marks)) (length m) v) in
+        done-answer d (t .state) theAnswer o m o₃ m₂ p (t .offset) (t .labels) (t .count) n (y .marks ∙ sym (over-is (t .state .marks) m _ refl))

@@ -1,0 +1,109 @@
+// The lowering walk: it reads the bytes of a unit again, and writes records and label marks where they fit.
+ghost use mathlib.Core.Path.{_≡_};
+ghost use mathlib.Core.List.{[]};
+ghost use lib.ListN.{length};
+ghost use Rattle.definitions.specs.Read.{parseUnit};
+ghost use Rattle.definitions.specs.Stage.{lowerInto};
+ghost use Rattle.steps.specs.Running.{run};
+ghost use Rattle.steps.specs.Walked.{Accepted, ran};
+ghost use Rattle.assemble.specs.Whole.{unitCode, zeros, answer, lowerTo};
+
+mod arms;
+mod nodes;
+
+use instr::listings;
+use instr::numbers::wide;
+use instr::records::Record;
+use ir::Class;
+use ir::ReadUnit;
+use ir::Refusal;
+use nodes::assemble_run;
+use steps::BlockSpan;
+use steps::Counters;
+use steps::Target;
+use steps::Walk;
+
+// A unit's totals, or why it is not lowered.
+pub enum Lowered {
+    Done(Counters),
+    Refused(Refusal),
+}
+
+// The walk over a unit that was read.
+fn real_walk(s: &[u8], out: &mut [u8], marks: &mut [u32]) -> Walk
+    requires { ⌜ Accepted (parseUnit (now s)) ⌝ }
+    ensures { λ r. ⌜ ran r (now (out .exit)) (now (marks .exit)) ≡ run (unitCode (now (s .entry))) (zeros (now (out .entry)) (now (marks .entry))) ⌝ }
+{
+    let w = Walk::Going(Counters {
+        offset: 0,
+        labels: 0,
+        count: 0,
+    });
+    let returns = wide(s[5]);
+    let span = BlockSpan {
+        break_target: Target::Nowhere,
+        continue_target: Target::Nowhere,
+        returns: returns,
+    };
+    let end = s.len();
+    assemble_run(s, 10, end, 200, Class::Statement, span, w, out, marks)
+}
+
+// The same with empty buffers: it writes nothing.
+fn dry_walk(s: &[u8], out: &mut [u8], marks: &mut [u32]) -> Walk
+    requires { ⌜ Accepted (parseUnit (now s)) ⌝ }
+    ensures { λ r. ⌜ (ran r [] [] ≡ run (unitCode (now (s .entry))) (zeros [] [])) × (now (out .exit) ≡ now (out .entry)) × (now (marks .exit) ≡ now (marks .entry)) ⌝ }
+{
+    real_walk(s, &mut out[0..0], &mut marks[0..0])
+}
+
+// A unit that was read: a dry walk, the refusals 20 and 21, the walk and the listing's front.
+fn lower_read(s: &[u8], out: &mut [u8], marks: &mut [u32]) -> Lowered
+    requires { ⌜ Accepted (parseUnit (now s)) ⌝ }
+    ensures { λ r. ⌜ answer r (now (out .exit)) (now (marks .exit)) ≡ lowerTo (lowerInto (now (s .entry)) (length (now (out .entry))) (length (now (marks .entry)))) (now (out .entry)) (now (marks .entry)) ⌝ }
+{
+    let dry = dry_walk(s, out, marks);
+    match dry {
+        Walk::Stopped(q) => Lowered::Refused(q),
+        Walk::Going(c) => {
+            let records = c.count as usize;
+            let labels = c.labels as usize;
+            if out.len() < listings::FRONT + Record::LENGTH * records {
+                return Lowered::Refused(Refusal {
+                    number: 20,
+                    place: 0,
+                    extra: 0,
+                });
+            }
+            if marks.len() < labels {
+                return Lowered::Refused(Refusal {
+                    number: 21,
+                    place: 0,
+                    extra: 0,
+                });
+            }
+            let real = real_walk(s, out, marks);
+            match real {
+                Walk::Stopped(q) => Lowered::Refused(q),
+                Walk::Going(d) => {
+                    listings::write_front(out, d.count);
+                    Lowered::Done(d)
+                }
+            }
+        }
+    }
+}
+
+// The labelled listing and the label marks of a unit, or the refusal, which leaves both buffers as they were.
+pub fn lower(unit: &[u8], out: &mut [u8], marks: &mut [u32]) -> Lowered
+    ensures { λ r. ⌜ answer r (now (out .exit)) (now (marks .exit)) ≡ lowerTo (lowerInto (now (unit .entry)) (length (now (out .entry))) (length (now (marks .entry)))) (now (out .entry)) (now (marks .entry)) ⌝ }
+{
+    let read = ir::read_unit(unit);
+    match read {
+        ReadUnit::Fails(q) => Lowered::Refused(q),
+        ReadUnit::Reads {
+            returns: _returns,
+            end: _end,
+        } => lower_read(unit, out, marks),
+    }
+}

@@ -1,0 +1,995 @@
+// Nodes and what they hold: one cycle of calls. Every child goes through `node`, where the depth that is left falls.
+ghost use mathlib.Core.Path.{_≡_};
+ghost use mathlib.Core.Bool.{cond};
+ghost use mathlib.Core.Option.{none};
+ghost use Prim.Native.Nat.{_+_, _≤_, _<_, _^_};
+ghost use lib.ListN.{length, getD};
+ghost use Rattle.definitions.specs.Tag.{Jump, JumpIfFalse, SwitchLabel};
+ghost use Rattle.definitions.specs.Tree.{exprsOf, branchesOf, casesOf};
+ghost use Rattle.definitions.specs.Read.{parseExpr, parseStmt, filling, arm};
+ghost use Rattle.definitions.specs.Code.{Action, mark, act, _then_};
+ghost use Rattle.definitions.specs.Lower.{jump, jumps, lowerArg, lowerExpr, lowerBlock, lowerBranches, lowerDefault, lowerLast, lowerCases, lowerMatchers, lowerBodies, lowerElements, midDefault};
+ghost use Rattle.ir.specs.Class.{nodeOf};
+ghost use Rattle.steps.specs.Walked.{Accepted, DefaultHere, Nones, codeOf, listOf, exprCode, stmtCode, nodeCode, fillCode, exprsFrom, armsFrom, armCode, defaultFrom, defaultOf, midCode, insideCode, marksFrom, Called, argsCode, callCode, spanOf, ending, Did};
+use super::arms::count_arms;
+use instr::numbers::u16_at;
+use instr::numbers::u32_at;
+use instr::numbers::wide;
+use instr::tag;
+use ir::Class;
+use ir::Class::Expression;
+use ir::Class::Statement;
+use ir::expr;
+use ir::stmt;
+use steps::BlockSpan;
+use steps::Target;
+use steps::Walk;
+use steps::calls::check_flags;
+use steps::calls::emit_invoke;
+use steps::calls::nops;
+use steps::calls::weak_to_ref;
+use steps::labels::labels_of;
+use steps::labels::mark_label;
+use steps::labels::new_label;
+use steps::labels::new_labels;
+use steps::pieces::constant;
+use steps::pieces::element;
+use steps::pieces::init_default;
+use steps::pieces::returned;
+use steps::places::count;
+use steps::places::end_of;
+use steps::records::emit_switch;
+use steps::records::invoke;
+use steps::records::jump;
+use steps::records::jumps;
+use steps::records::plain;
+use steps::refusals::jump_to;
+use steps::refusals::require;
+use steps::spans::in_loop;
+use steps::spans::in_switch;
+use steps::switches::ends_group;
+use steps::switches::group_after;
+use steps::switches::group_label;
+use steps::switches::is_mid;
+use steps::switches::is_same;
+use steps::switches::mark_if;
+use steps::switches::open_group;
+use steps::tags::element_tag;
+use steps::tags::intrinsic_small;
+use steps::tags::intrinsic_tag;
+use steps::tags::local_tag;
+use steps::tags::null_tag;
+use steps::tags::typed;
+
+// A node that was read, in a holder that ends at `end`.
+fn node(
+    s: &[u8],
+    at: usize,
+    end: usize,
+    depth: usize,
+    class: Class,
+    span: BlockSpan,
+    w: Walk,
+    out: &mut [u8],
+    marks: &mut [u32],
+) -> Walk
+    requires { ⌜ Accepted (nodeOf class depth (now s) end at) ⌝ }
+    requires { ⌜ end ≤ length (now s) ⌝ }
+    ensures { λ r. ⌜ Did (nodeCode class depth (now (s .entry)) end at (spanOf span)) w (now (out .entry)) (now (marks .entry)) r (now (out .exit)) (now (marks .exit)) ⌝ }
+{
+    match class {
+        Statement => assemble(s, at, end, depth, span, w, out, marks),
+        Expression => assemble_expr(s, at, end, depth, span, w, out, marks),
+    }
+}
+
+// A statement.
+fn assemble(
+    s: &[u8],
+    at: usize,
+    end: usize,
+    depth: usize,
+    span: BlockSpan,
+    w: Walk,
+    out: &mut [u8],
+    marks: &mut [u32],
+) -> Walk
+    requires { ⌜ Accepted (parseStmt depth (now s) end at) ⌝ }
+    requires { ⌜ end ≤ length (now s) ⌝ }
+    ensures { λ r. ⌜ Did (stmtCode depth (now (s .entry)) end at (spanOf span)) w (now (out .entry)) (now (marks .entry)) r (now (out .exit)) (now (marks .exit)) ⌝ }
+{
+    let kind = s[at + 4];
+    let stop = end_of(s, at);
+    let below = depth - 1;
+    match kind {
+        stmt::EXPR => node(s, at + 5, stop, below, Expression, span, w, out, marks),
+        stmt::BLOCK => assemble_run(s, at + 9, stop, below, Statement, span, w, out, marks),
+        stmt::WHILE => while_loop(s, at, end, depth, span, w, out, marks),
+        stmt::BRANCHES => branches(s, at, end, depth, span, w, out, marks),
+        stmt::SWITCH => switch(s, at, end, depth, span, w, out, marks),
+        stmt::INIT_ARRAY => init_array(s, at, end, depth, span, w, out, marks),
+        stmt::INIT_DEFAULT => init_default(s, at, w, out),
+        stmt::BREAK => {
+            let target = span.break_target;
+            jump_to(w, 10, at, target, out)
+        }
+        stmt::CONTINUE => {
+            let target = span.continue_target;
+            jump_to(w, 11, at, target, out)
+        }
+        stmt::RETURN => return_stmt(s, at, end, depth, span, w, out, marks),
+        _ => w,
+    }
+}
+
+// An expression.
+fn assemble_expr(
+    s: &[u8],
+    at: usize,
+    end: usize,
+    depth: usize,
+    span: BlockSpan,
+    w: Walk,
+    out: &mut [u8],
+    marks: &mut [u32],
+) -> Walk
+    requires { ⌜ Accepted (parseExpr depth (now s) end at) ⌝ }
+    requires { ⌜ end ≤ length (now s) ⌝ }
+    ensures { λ r. ⌜ Did (exprCode depth (now (s .entry)) end at) w (now (out .entry)) (now (marks .entry)) r (now (out .exit)) (now (marks .exit)) ⌝ }
+{
+    let kind = s[at + 4];
+    let stop = end_of(s, at);
+    let below = depth - 1;
+    match kind {
+        expr::NOP => plain(w, tag::NOP, 0, 0, out),
+        expr::CONST => constant(s, at, w, out),
+        expr::NULL => {
+            let t = null_tag(s[at + 5]);
+            plain(w, t, 0, 0, out)
+        }
+        expr::NEW_INSTANCE => {
+            let class = u32_at(s, at + 5);
+            plain(w, tag::NEW, 0, class, out)
+        }
+        expr::CONSTRUCT => {
+            let first = at + 13;
+            let n = count(s, first, stop, below);
+            let class = u32_at(s, at + 5);
+            let w1 = require(w, n < 256, 12, at, n);
+            let w2 = plain(w1, tag::CONSTRUCT, n, class, out);
+            assemble_run(s, first, stop, below, Expression, span, w2, out, marks)
+        }
+        expr::ASSIGN => {
+            let first = at + 5;
+            let second = end_of(s, first);
+            let w1 = plain(w, tag::ASSIGN, 0, 0, out);
+            let w2 = node(s, first, stop, below, Expression, span, w1, out, marks);
+            node(s, second, stop, below, Expression, span, w2, out, marks)
+        }
+        expr::FIELD => field(s, at, end, depth, span, w, out, marks),
+        expr::INDEX => {
+            let first = at + 10;
+            let second = end_of(s, first);
+            let t = element_tag(s[at + 5]);
+            let typ = u32_at(s, at + 6);
+            let w1 = plain(w, t, 0, typ, out);
+            let w2 = node(s, first, stop, below, Expression, span, w1, out, marks);
+            node(s, second, stop, below, Expression, span, w2, out, marks)
+        }
+        expr::CONDITIONAL => conditional(s, at, end, depth, span, w, out, marks),
+        _ => late_expr(s, at, end, depth, span, w, out, marks),
+    }
+}
+
+// An expression of a kind from 10 on.
+fn late_expr(
+    s: &[u8],
+    at: usize,
+    end: usize,
+    depth: usize,
+    span: BlockSpan,
+    w: Walk,
+    out: &mut [u8],
+    marks: &mut [u32],
+) -> Walk
+    requires { ⌜ Accepted (parseExpr depth (now s) end at) ⌝ }
+    requires { ⌜ end ≤ length (now s) ⌝ }
+    requires { ⌜ Nones 0 9 (getD (now s) (at + 4) 0) ⌝ }
+    ensures { λ r. ⌜ Did (exprCode depth (now (s .entry)) end at) w (now (out .entry)) (now (marks .entry)) r (now (out .exit)) (now (marks .exit)) ⌝ }
+{
+    let kind = s[at + 4];
+    let stop = end_of(s, at);
+    let below = depth - 1;
+    match kind {
+        expr::DYN_CAST => {
+            let class = u32_at(s, at + 5);
+            let weak = wide(s[at + 9]);
+            let w1 = plain(w, tag::DYNAMIC_CAST, weak, class, out);
+            node(s, at + 10, stop, below, Expression, span, w1, out, marks)
+        }
+        expr::LOCAL => {
+            let t = local_tag(s[at + 5]);
+            let index = u32_at(s, at + 6);
+            plain(w, t, 0, index, out)
+        }
+        expr::INTRINSIC_CALL => {
+            let code = wide(s[at + 5]);
+            let fits = typed(code, wide(s[at + 6]), wide(s[at + 7]));
+            let index = u32_at(s, at + 8);
+            let w1 = require(w, fits, 14, at, 0);
+            let w2 = plain(w1, intrinsic_tag(code), intrinsic_small(code), index, out);
+            assemble_run(s, at + 16, stop, below, Expression, span, w2, out, marks)
+        }
+        expr::FREE_CALL => emit_call(s, at + 5, stop, below, span, at, w, out, marks),
+        expr::STATIC_CALL => {
+            let exit = labels_of(w);
+            let w1 = new_label(w, at, marks);
+            let w2 = emit_call(s, at + 5, stop, below, span, at, w1, out, marks);
+            mark_label(w2, exit, marks)
+        }
+        expr::INSTANCE_CALL => instance(s, at, end, depth, span, w, out, marks),
+        expr::CLOSURE_CALL => closure(s, at, end, depth, span, w, out, marks),
+        _ => w,
+    }
+}
+
+// Field: of a struct, or of an object behind a Context.
+fn field(
+    s: &[u8],
+    at: usize,
+    end: usize,
+    depth: usize,
+    span: BlockSpan,
+    w: Walk,
+    out: &mut [u8],
+    marks: &mut [u32],
+) -> Walk
+    requires { ⌜ Accepted (parseExpr depth (now s) end at) ⌝ }
+    requires { ⌜ end ≤ length (now s) ⌝ }
+    requires { ⌜ getD (now s) (at + 4) 0 ≡ 7 ⌝ }
+    ensures { λ r. ⌜ Did (exprCode depth (now (s .entry)) end at) w (now (out .entry)) (now (marks .entry)) r (now (out .exit)) (now (marks .exit)) ⌝ }
+{
+    let stop = end_of(s, at);
+    let below = depth - 1;
+    let form = wide(s[at + 5]);
+    let name = u32_at(s, at + 6);
+    let first = at + 10;
+    if form == 0 {
+        let w1 = plain(w, tag::STRUCT_FIELD, 0, name, out);
+        return node(s, first, stop, below, Expression, span, w1, out, marks);
+    }
+    let exit = labels_of(w);
+    let w1 = new_label(w, at, marks);
+    let w2 = jump(w1, tag::CONTEXT, exit, out);
+    let w3 = weak_to_ref(w2, form - 1, out);
+    let w4 = node(s, first, stop, below, Expression, span, w3, out, marks);
+    let w5 = plain(w4, tag::OBJECT_FIELD, 0, name, out);
+    mark_label(w5, exit, marks)
+}
+
+// Conditional.
+fn conditional(
+    s: &[u8],
+    at: usize,
+    end: usize,
+    depth: usize,
+    span: BlockSpan,
+    w: Walk,
+    out: &mut [u8],
+    marks: &mut [u32],
+) -> Walk
+    requires { ⌜ Accepted (parseExpr depth (now s) end at) ⌝ }
+    requires { ⌜ end ≤ length (now s) ⌝ }
+    requires { ⌜ getD (now s) (at + 4) 0 ≡ 9 ⌝ }
+    ensures { λ r. ⌜ Did (exprCode depth (now (s .entry)) end at) w (now (out .entry)) (now (marks .entry)) r (now (out .exit)) (now (marks .exit)) ⌝ }
+{
+    let stop = end_of(s, at);
+    let below = depth - 1;
+    let first = at + 5;
+    let second = end_of(s, first);
+    let third = end_of(s, second);
+    let other = labels_of(w);
+    let w1 = new_label(w, at, marks);
+    let exit = labels_of(w1);
+    let w2 = new_label(w1, at, marks);
+    let w3 = jumps(w2, tag::CONDITIONAL, other, exit, out);
+    let w4 = node(s, first, stop, below, Expression, span, w3, out, marks);
+    let w5 = node(s, second, stop, below, Expression, span, w4, out, marks);
+    let w6 = mark_label(w5, other, marks);
+    let w7 = node(s, third, stop, below, Expression, span, w6, out, marks);
+    mark_label(w7, exit, marks)
+}
+
+// An instance call.
+fn instance(
+    s: &[u8],
+    at: usize,
+    end: usize,
+    depth: usize,
+    span: BlockSpan,
+    w: Walk,
+    out: &mut [u8],
+    marks: &mut [u32],
+) -> Walk
+    requires { ⌜ Accepted (parseExpr depth (now s) end at) ⌝ }
+    requires { ⌜ end ≤ length (now s) ⌝ }
+    requires { ⌜ getD (now s) (at + 4) 0 ≡ 15 ⌝ }
+    ensures { λ r. ⌜ Did (exprCode depth (now (s .entry)) end at) w (now (out .entry)) (now (marks .entry)) r (now (out .exit)) (now (marks .exit)) ⌝ }
+{
+    let stop = end_of(s, at);
+    let below = depth - 1;
+    let first = at + 6;
+    let second = end_of(s, first);
+    let weak = wide(s[at + 5]);
+    let exit = labels_of(w);
+    let w1 = new_label(w, at, marks);
+    let w2 = jump(w1, tag::CONTEXT, exit, out);
+    let w3 = weak_to_ref(w2, weak, out);
+    let w4 = node(s, first, stop, below, Expression, span, w3, out, marks);
+    let w5 = emit_call(s, second, stop, below, span, at, w4, out, marks);
+    mark_label(w5, exit, marks)
+}
+
+// A closure call.
+fn closure(
+    s: &[u8],
+    at: usize,
+    end: usize,
+    depth: usize,
+    span: BlockSpan,
+    w: Walk,
+    out: &mut [u8],
+    marks: &mut [u32],
+) -> Walk
+    requires { ⌜ Accepted (parseExpr depth (now s) end at) ⌝ }
+    requires { ⌜ end ≤ length (now s) ⌝ }
+    requires { ⌜ getD (now s) (at + 4) 0 ≡ 16 ⌝ }
+    ensures { λ r. ⌜ Did (exprCode depth (now (s .entry)) end at) w (now (out .entry)) (now (marks .entry)) r (now (out .exit)) (now (marks .exit)) ⌝ }
+{
+    let stop = end_of(s, at);
+    let below = depth - 1;
+    let first = at + 5;
+    let second = end_of(s, first);
+    let name = u32_at(s, second);
+    let line = u16_at(s, second + 4);
+    let context = labels_of(w);
+    let w1 = new_label(w, at, marks);
+    let w2 = jump(w1, tag::CONTEXT, context, out);
+    let w3 = node(s, first, stop, below, Expression, span, w2, out, marks);
+    let w4 = mark_label(w3, context, marks);
+    let exit = labels_of(w4);
+    let w5 = new_label(w4, at, marks);
+    let w6 = invoke(w5, tag::INVOKE_VIRTUAL, exit, line, 0, name, out);
+    let w7 = assemble_run(
+        s,
+        second + 10,
+        stop,
+        below,
+        Expression,
+        span,
+        w6,
+        out,
+        marks,
+    );
+    let w8 = plain(w7, tag::PARAM_END, 0, 0, out);
+    mark_label(w8, exit, marks)
+}
+
+// A function, whose fields begin at `at`, and its arguments, which end the node at `site`: emit_call.
+fn emit_call(
+    s: &[u8],
+    at: usize,
+    end: usize,
+    depth: usize,
+    span: BlockSpan,
+    site: usize,
+    w: Walk,
+    out: &mut [u8],
+    marks: &mut [u32],
+) -> Walk
+    requires { ⌜ Called depth (now s) end at ⌝ }
+    requires { ⌜ end ≤ length (now s) ⌝ }
+    ensures { λ r. ⌜ Did (callCode depth (now (s .entry)) end at site) w (now (out .entry)) (now (marks .entry)) r (now (out .exit)) (now (marks .exit)) ⌝ }
+{
+    let n = wide(s[at + 11]);
+    let first = at + 16 + n;
+    let exit = labels_of(w);
+    let w1 = new_label(w, site, marks);
+    let w2 = check_flags(s, first, end, depth, w1);
+    let w3 = emit_invoke(s, at, end, depth, exit, w2, out);
+    let w4 = args(s, first, end, depth, span, site, at + 12, n, w3, out, marks);
+    let w5 = plain(w4, tag::PARAM_END, 0, 0, out);
+    mark_label(w5, exit, marks)
+}
+
+// Arguments with the marks of their parameters, then a Nop for each that is absent.
+fn args(
+    s: &[u8],
+    at: usize,
+    end: usize,
+    depth: usize,
+    span: BlockSpan,
+    site: usize,
+    params: usize,
+    n: usize,
+    w: Walk,
+    out: &mut [u8],
+    marks: &mut [u32],
+) -> Walk
+    requires { ⌜ Accepted (exprsFrom depth (now s) end at) ⌝ }
+    requires { ⌜ (at ≤ end) × (end ≤ length (now s)) × (params + n ≤ at) × (length (listOf (exprsFrom depth (now s) end at)) ≤ n) ⌝ }
+    ensures { λ r. ⌜ Did (argsCode depth (now (s .entry)) end at site (marksFrom (now (s .entry)) params n)) w (now (out .entry)) (now (marks .entry)) r (now (out .exit)) (now (marks .exit)) ⌝ }
+{
+    let mut i = at;
+    let mut v = w;
+    let mut p = params;
+    let mut left = n;
+    while i < end {
+        let short = wide(s[p]);
+        v = arg(s, i, end, depth, span, site, short, v, out, marks);
+        i = end_of(s, i);
+        p += 1;
+        left -= 1;
+    }
+    nops(v, left, out)
+}
+
+// An argument, behind a Skip where its parameter is short-circuit.
+fn arg(
+    s: &[u8],
+    at: usize,
+    end: usize,
+    depth: usize,
+    span: BlockSpan,
+    site: usize,
+    short: usize,
+    w: Walk,
+    out: &mut [u8],
+    marks: &mut [u32],
+) -> Walk
+    requires { ⌜ Accepted (parseExpr depth (now s) end at) ⌝ }
+    requires { ⌜ end ≤ length (now s) ⌝ }
+    ensures { λ r. ⌜ Did (lowerArg site short (exprCode depth (now (s .entry)) end at)) w (now (out .entry)) (now (marks .entry)) r (now (out .exit)) (now (marks .exit)) ⌝ }
+{
+    if short == 0 {
+        return node(s, at, end, depth, Expression, span, w, out, marks);
+    }
+    let skip = labels_of(w);
+    let w1 = new_label(w, site, marks);
+    let w2 = jump(w1, tag::SKIP, skip, out);
+    let w3 = node(s, at, end, depth, Expression, span, w2, out, marks);
+    mark_label(w3, skip, marks)
+}
+
+// Nodes that fill the bytes from `at` to `end`: a block, or expressions.
+pub fn assemble_run(
+    s: &[u8],
+    at: usize,
+    end: usize,
+    depth: usize,
+    class: Class,
+    span: BlockSpan,
+    w: Walk,
+    out: &mut [u8],
+    marks: &mut [u32],
+) -> Walk
+    requires { ⌜ Accepted (filling (nodeOf class depth (now s)) end at) ⌝ }
+    requires { ⌜ (at ≤ end) × (end ≤ length (now s)) ⌝ }
+    ensures { λ r. ⌜ Did (fillCode class depth (now (s .entry)) end at (spanOf span)) w (now (out .entry)) (now (marks .entry)) r (now (out .exit)) (now (marks .exit)) ⌝ }
+{
+    let mut i = at;
+    let mut v = w;
+    while i < end {
+        v = node(s, i, end, depth, class, span, v, out, marks);
+        i = end_of(s, i);
+    }
+    v
+}
+
+// While.
+fn while_loop(
+    s: &[u8],
+    at: usize,
+    end: usize,
+    depth: usize,
+    span: BlockSpan,
+    w: Walk,
+    out: &mut [u8],
+    marks: &mut [u32],
+) -> Walk
+    requires { ⌜ Accepted (parseStmt depth (now s) end at) ⌝ }
+    requires { ⌜ end ≤ length (now s) ⌝ }
+    requires { ⌜ getD (now s) (at + 4) 0 ≡ 3 ⌝ }
+    ensures { λ r. ⌜ Did (stmtCode depth (now (s .entry)) end at (spanOf span)) w (now (out .entry)) (now (marks .entry)) r (now (out .exit)) (now (marks .exit)) ⌝ }
+{
+    let stop = end_of(s, at);
+    let below = depth - 1;
+    let first = at + 5;
+    let second = end_of(s, first);
+    let start = labels_of(w);
+    let w1 = new_label(w, at, marks);
+    let finish = labels_of(w1);
+    let w2 = new_label(w1, at, marks);
+    let w3 = mark_label(w2, start, marks);
+    let w4 = jump(w3, tag::JUMP_IF_FALSE, finish, out);
+    let w5 = node(s, first, stop, below, Expression, span, w4, out, marks);
+    let inner = in_loop(start, finish, span);
+    let w6 = assemble_run(s, second + 4, stop, below, Statement, inner, w5, out, marks);
+    let w7 = jump(w6, tag::JUMP, start, out);
+    mark_label(w7, finish, marks)
+}
+
+// Branches.
+fn branches(
+    s: &[u8],
+    at: usize,
+    end: usize,
+    depth: usize,
+    span: BlockSpan,
+    w: Walk,
+    out: &mut [u8],
+    marks: &mut [u32],
+) -> Walk
+    requires { ⌜ Accepted (parseStmt depth (now s) end at) ⌝ }
+    requires { ⌜ end ≤ length (now s) ⌝ }
+    requires { ⌜ getD (now s) (at + 4) 0 ≡ 4 ⌝ }
+    ensures { λ r. ⌜ Did (stmtCode depth (now (s .entry)) end at (spanOf span)) w (now (out .entry)) (now (marks .entry)) r (now (out .exit)) (now (marks .exit)) ⌝ }
+{
+    let stop = end_of(s, at);
+    let below = depth - 1;
+    let list = end_of(s, at + 5);
+    let next = labels_of(w);
+    let w1 = new_label(w, at, marks);
+    let exit = labels_of(w1);
+    let w2 = new_label(w1, at, marks);
+    let w3 = arms(s, at + 9, list, below, span, at, next, exit, w2, out, marks);
+    let there = wide(s[list]);
+    let w4 = default_block(s, list + 1, stop, below, span, there, w3, out, marks);
+    mark_label(w4, exit, marks)
+}
+
+// The branches of the node at `site`; `first` is the label of the first.
+fn arms(
+    s: &[u8],
+    at: usize,
+    end: usize,
+    depth: usize,
+    span: BlockSpan,
+    site: usize,
+    first: usize,
+    exit: usize,
+    w: Walk,
+    out: &mut [u8],
+    marks: &mut [u32],
+) -> Walk
+    requires { ⌜ Accepted (armsFrom depth (now s) end at) ⌝ }
+    requires { ⌜ (at ≤ end) × (end ≤ length (now s)) ⌝ }
+    ensures { λ r. ⌜ Did (codeOf (λ xs. lowerBranches (branchesOf xs) site first exit (spanOf span)) (armsFrom depth (now (s .entry)) end at)) w (now (out .entry)) (now (marks .entry)) r (now (out .exit)) (now (marks .exit)) ⌝ }
+{
+    let mut i = at;
+    let mut v = w;
+    let mut next = first;
+    while i < end {
+        v = arm(s, i, end, depth, span, next, exit, v, out, marks);
+        next = labels_of(v);
+        v = new_label(v, site, marks);
+        let second = end_of(s, i);
+        i = end_of(s, second);
+    }
+    v
+}
+
+// A branch.
+fn arm(
+    s: &[u8],
+    at: usize,
+    end: usize,
+    depth: usize,
+    span: BlockSpan,
+    next: usize,
+    exit: usize,
+    w: Walk,
+    out: &mut [u8],
+    marks: &mut [u32],
+) -> Walk
+    requires { ⌜ Accepted (arm (now s) (parseExpr depth (now s)) (parseStmt depth (now s)) end at) ⌝ }
+    requires { ⌜ end ≤ length (now s) ⌝ }
+    ensures { λ r. ⌜ Did (armCode (λ c b. jump JumpIfFalse next then lowerExpr c then lowerBlock b (spanOf span) then jump Jump exit then act (mark next)) depth (now (s .entry)) end at) w (now (out .entry)) (now (marks .entry)) r (now (out .exit)) (now (marks .exit)) ⌝ }
+{
+    let second = end_of(s, at);
+    let third = end_of(s, second);
+    let w1 = jump(w, tag::JUMP_IF_FALSE, next, out);
+    let w2 = node(s, at, end, depth, Expression, span, w1, out, marks);
+    let w3 = assemble_run(s, second + 4, third, depth, Statement, span, w2, out, marks);
+    let w4 = jump(w3, tag::JUMP, exit, out);
+    mark_label(w4, next, marks)
+}
+
+// The default block, where its mark is 1.
+fn default_block(
+    s: &[u8],
+    at: usize,
+    end: usize,
+    depth: usize,
+    span: BlockSpan,
+    there: usize,
+    w: Walk,
+    out: &mut [u8],
+    marks: &mut [u32],
+) -> Walk
+    requires { ⌜ DefaultHere there depth (now s) end at ⌝ }
+    requires { ⌜ end ≤ length (now s) ⌝ }
+    ensures { λ r. ⌜ Did (codeOf (λ d. lowerDefault d (spanOf span)) (defaultFrom there depth (now (s .entry)) end at)) w (now (out .entry)) (now (marks .entry)) r (now (out .exit)) (now (marks .exit)) ⌝ }
+{
+    if there == 0 {
+        return w;
+    }
+    assemble_run(s, at + 4, end, depth, Statement, span, w, out, marks)
+}
+
+// Switch.
+fn switch(
+    s: &[u8],
+    at: usize,
+    end: usize,
+    depth: usize,
+    span: BlockSpan,
+    w: Walk,
+    out: &mut [u8],
+    marks: &mut [u32],
+) -> Walk
+    requires { ⌜ Accepted (parseStmt depth (now s) end at) ⌝ }
+    requires { ⌜ end ≤ length (now s) ⌝ }
+    requires { ⌜ getD (now s) (at + 4) 0 ≡ 5 ⌝ }
+    ensures { λ r. ⌜ Did (stmtCode depth (now (s .entry)) end at (spanOf span)) w (now (out .entry)) (now (marks .entry)) r (now (out .exit)) (now (marks .exit)) ⌝ }
+{
+    let stop = end_of(s, at);
+    let below = depth - 1;
+    let first = at + 9;
+    let second = end_of(s, first);
+    let list = end_of(s, second + 5);
+    let typ = u32_at(s, at + 5);
+    let finish = labels_of(w);
+    let w1 = new_label(w, at, marks);
+    let label = labels_of(w1);
+    let w2 = new_label(w1, at, marks);
+    let w3 = emit_switch(w2, typ, label, out);
+    let w4 = node(s, first, stop, below, Expression, span, w3, out, marks);
+    let inner = in_switch(finish, span);
+    let index = u32_at(s, second);
+    let there = wide(s[second + 4]);
+    let n = count_arms(s, second + 9, list, below);
+    let w5 = inside(
+        s,
+        second + 9,
+        list,
+        below,
+        inner,
+        at,
+        label,
+        stop,
+        there,
+        index,
+        n,
+        w4,
+        out,
+        marks,
+    );
+    mark_label(w5, finish, marks)
+}
+
+// The cases of a switch and its default.
+fn inside(
+    s: &[u8],
+    at: usize,
+    end: usize,
+    depth: usize,
+    span: BlockSpan,
+    site: usize,
+    first: usize,
+    stop: usize,
+    there: usize,
+    index: usize,
+    n: usize,
+    w: Walk,
+    out: &mut [u8],
+    marks: &mut [u32],
+) -> Walk
+    requires { ⌜ Accepted (armsFrom depth (now s) end at) ⌝ }
+    requires { ⌜ DefaultHere there depth (now s) stop end ⌝ }
+    requires { ⌜ (at ≤ end) × (end ≤ stop) × (stop ≤ length (now s)) × (n ≡ length (listOf (armsFrom depth (now s) end at))) ⌝ }
+    ensures { λ r. ⌜ Did (insideCode there index depth (now (s .entry)) end at stop site first (spanOf span)) w (now (out .entry)) (now (marks .entry)) r (now (out .exit)) (now (marks .exit)) ⌝ }
+{
+    if is_mid(there, index, n) {
+        return mid_default(
+            s,
+            at,
+            end,
+            depth,
+            span,
+            site,
+            first,
+            stop,
+            index,
+            n,
+            w,
+            out,
+            marks,
+        );
+    }
+    let w1 = cases(s, at, end, depth, span, site, first, w, out, marks);
+    if there == 0 {
+        return w1;
+    }
+    let w2 = plain(w1, tag::SWITCH_DEFAULT, 0, 0, out);
+    assemble_run(s, end + 4, stop, depth, Statement, span, w2, out, marks)
+}
+
+// Cases in groups: each block after its matcher.
+fn cases(
+    s: &[u8],
+    at: usize,
+    end: usize,
+    depth: usize,
+    span: BlockSpan,
+    site: usize,
+    first: usize,
+    w: Walk,
+    out: &mut [u8],
+    marks: &mut [u32],
+) -> Walk
+    requires { ⌜ Accepted (armsFrom depth (now s) end at) ⌝ }
+    requires { ⌜ (at ≤ end) × (end ≤ length (now s)) ⌝ }
+    ensures { λ r. ⌜ Did (codeOf (λ cs. lowerCases (casesOf cs) site first none (spanOf span)) (armsFrom depth (now (s .entry)) end at)) w (now (out .entry)) (now (marks .entry)) r (now (out .exit)) (now (marks .exit)) ⌝ }
+{
+    let mut i = at;
+    let mut v = w;
+    let mut next = first;
+    let mut group = Target::Nowhere;
+    while i < end {
+        let second = end_of(s, i);
+        let third = end_of(s, second);
+        let ends = ends_group(second + 4, third, end);
+        let body = group_label(group, v);
+        v = open_group(v, group, site, marks);
+        v = mark_label(v, next, marks);
+        next = labels_of(v);
+        v = new_label(v, site, marks);
+        v = case(s, i, end, depth, span, next, body, ends, v, out, marks);
+        group = group_after(ends, body);
+        i = third;
+    }
+    mark_label(v, next, marks)
+}
+
+// A case; its block, where it ends its group.
+fn case(
+    s: &[u8],
+    at: usize,
+    end: usize,
+    depth: usize,
+    span: BlockSpan,
+    next: usize,
+    body: usize,
+    ends: bool,
+    w: Walk,
+    out: &mut [u8],
+    marks: &mut [u32],
+) -> Walk
+    requires { ⌜ Accepted (arm (now s) (parseExpr depth (now s)) (parseStmt depth (now s)) end at) ⌝ }
+    requires { ⌜ end ≤ length (now s) ⌝ }
+    ensures { λ r. ⌜ Did (armCode (λ c b. jumps SwitchLabel next body then lowerExpr c then ending ends body (lowerBlock b (spanOf span))) depth (now (s .entry)) end at) w (now (out .entry)) (now (marks .entry)) r (now (out .exit)) (now (marks .exit)) ⌝ }
+{
+    let second = end_of(s, at);
+    let third = end_of(s, second);
+    let w1 = jumps(w, tag::SWITCH_LABEL, next, body, out);
+    let w2 = node(s, at, end, depth, Expression, span, w1, out, marks);
+    if ends {
+        let w3 = mark_label(w2, body, marks);
+        return assemble_run(s, second + 4, third, depth, Statement, span, w3, out, marks);
+    }
+    w2
+}
+
+// A switch whose default stands before case `index`: all matchers, then all blocks.
+fn mid_default(
+    s: &[u8],
+    at: usize,
+    end: usize,
+    depth: usize,
+    span: BlockSpan,
+    site: usize,
+    first: usize,
+    stop: usize,
+    index: usize,
+    n: usize,
+    w: Walk,
+    out: &mut [u8],
+    marks: &mut [u32],
+) -> Walk
+    requires { ⌜ Accepted (armsFrom depth (now s) end at) ⌝ }
+    requires { ⌜ DefaultHere 1 depth (now s) stop end ⌝ }
+    requires { ⌜ (at ≤ end) × (end ≤ stop) × (stop ≤ length (now s)) × (n ≡ length (listOf (armsFrom depth (now s) end at))) ⌝ }
+    ensures { λ r. ⌜ Did (codeOf (λ cs. midCode cs site first index (defaultOf 1 depth (now (s .entry)) stop end) (spanOf span)) (armsFrom depth (now (s .entry)) end at)) w (now (out .entry)) (now (marks .entry)) r (now (out .exit)) (now (marks .exit)) ⌝ }
+{
+    let body = labels_of(w);
+    let w1 = new_labels(w, site, n + 1, marks);
+    let w2 = matchers(s, at, end, depth, span, site, first, body, w1, out, marks);
+    let w3 = plain(w2, tag::SWITCH_DEFAULT, 0, 0, out);
+    let w4 = jump(w3, tag::JUMP, body + n, out);
+    bodies(
+        s,
+        at,
+        end,
+        depth,
+        span,
+        index,
+        body,
+        n,
+        stop,
+        w4,
+        out,
+        marks,
+    )
+}
+
+// The matchers of all cases.
+fn matchers(
+    s: &[u8],
+    at: usize,
+    end: usize,
+    depth: usize,
+    span: BlockSpan,
+    site: usize,
+    first: usize,
+    label: usize,
+    w: Walk,
+    out: &mut [u8],
+    marks: &mut [u32],
+) -> Walk
+    requires { ⌜ Accepted (armsFrom depth (now s) end at) ⌝ }
+    requires { ⌜ (at ≤ end) × (end ≤ length (now s)) × (label < 2 ^ 32) ⌝ }
+    ensures { λ r. ⌜ Did (codeOf (λ cs. lowerMatchers (casesOf cs) site first label) (armsFrom depth (now (s .entry)) end at)) w (now (out .entry)) (now (marks .entry)) r (now (out .exit)) (now (marks .exit)) ⌝ }
+{
+    let mut i = at;
+    let mut v = w;
+    let mut next = first;
+    let mut body = label;
+    while i < end {
+        let second = end_of(s, i);
+        v = mark_label(v, next, marks);
+        next = labels_of(v);
+        v = new_label(v, site, marks);
+        v = jumps(v, tag::SWITCH_LABEL, next, body, out);
+        v = node(s, i, end, depth, Expression, span, v, out, marks);
+        body += 1;
+        i = end_of(s, second);
+    }
+    mark_label(v, next, marks)
+}
+
+// The blocks of all cases, the default before case `index`.
+fn bodies(
+    s: &[u8],
+    at: usize,
+    end: usize,
+    depth: usize,
+    span: BlockSpan,
+    index: usize,
+    label: usize,
+    n: usize,
+    stop: usize,
+    w: Walk,
+    out: &mut [u8],
+    marks: &mut [u32],
+) -> Walk
+    requires { ⌜ Accepted (armsFrom depth (now s) end at) ⌝ }
+    requires { ⌜ DefaultHere 1 depth (now s) stop end ⌝ }
+    requires { ⌜ (at ≤ end) × (end ≤ stop) × (stop ≤ length (now s)) × (label < 2 ^ 32) × (n ≤ length (now s)) ⌝ }
+    ensures { λ r. ⌜ Did (codeOf (λ cs. lowerBodies (casesOf cs) index label (label + n) (lowerDefault (defaultOf 1 depth (now (s .entry)) stop end) (spanOf span)) (spanOf span)) (armsFrom depth (now (s .entry)) end at)) w (now (out .entry)) (now (marks .entry)) r (now (out .exit)) (now (marks .exit)) ⌝ }
+{
+    let mut i = at;
+    let mut v = w;
+    let mut k = 0;
+    while i < end {
+        let second = end_of(s, i);
+        let third = end_of(s, second);
+        let here = is_same(k, index);
+        v = mark_if(v, here, label + n, marks);
+        v = default_block(s, end, stop, depth, span, here, v, out, marks);
+        v = mark_label(v, label + k, marks);
+        v = assemble_run(s, second + 4, third, depth, Statement, span, v, out, marks);
+        k += 1;
+        i = third;
+    }
+    v
+}
+
+// InitArray.
+fn init_array(
+    s: &[u8],
+    at: usize,
+    end: usize,
+    depth: usize,
+    span: BlockSpan,
+    w: Walk,
+    out: &mut [u8],
+    marks: &mut [u32],
+) -> Walk
+    requires { ⌜ Accepted (parseStmt depth (now s) end at) ⌝ }
+    requires { ⌜ end ≤ length (now s) ⌝ }
+    requires { ⌜ getD (now s) (at + 4) 0 ≡ 6 ⌝ }
+    ensures { λ r. ⌜ Did (stmtCode depth (now (s .entry)) end at (spanOf span)) w (now (out .entry)) (now (marks .entry)) r (now (out .exit)) (now (marks .exit)) ⌝ }
+{
+    let stop = end_of(s, at);
+    let below = depth - 1;
+    let first = at + 17;
+    let local = u32_at(s, at + 5);
+    let typ = u32_at(s, at + 9);
+    if first < stop {
+        let n = count(s, first, stop, below);
+        let w1 = plain(w, tag::ARRAY_RESIZE, 0, typ, out);
+        let w2 = plain(w1, tag::LOCAL, 0, local, out);
+        let w3 = plain(w2, tag::U64_CONST, 0, n, out);
+        return elements(s, first, stop, below, span, local, typ, w3, out, marks);
+    }
+    w
+}
+
+// The elements of an array.
+fn elements(
+    s: &[u8],
+    at: usize,
+    end: usize,
+    depth: usize,
+    span: BlockSpan,
+    local: usize,
+    typ: usize,
+    w: Walk,
+    out: &mut [u8],
+    marks: &mut [u32],
+) -> Walk
+    requires { ⌜ Accepted (exprsFrom depth (now s) end at) ⌝ }
+    requires { ⌜ (at ≤ end) × (end ≤ length (now s)) ⌝ }
+    ensures { λ r. ⌜ Did (codeOf (λ xs. lowerElements (exprsOf xs) local typ 0) (exprsFrom depth (now (s .entry)) end at)) w (now (out .entry)) (now (marks .entry)) r (now (out .exit)) (now (marks .exit)) ⌝ }
+{
+    let mut i = at;
+    let mut v = w;
+    let mut k = 0;
+    while i < end {
+        v = element(v, local, typ, k, out);
+        v = node(s, i, end, depth, Expression, span, v, out, marks);
+        i = end_of(s, i);
+        k += 1;
+    }
+    v
+}
+
+// Return.
+fn return_stmt(
+    s: &[u8],
+    at: usize,
+    end: usize,
+    depth: usize,
+    span: BlockSpan,
+    w: Walk,
+    out: &mut [u8],
+    marks: &mut [u32],
+) -> Walk
+    requires { ⌜ Accepted (parseStmt depth (now s) end at) ⌝ }
+    requires { ⌜ end ≤ length (now s) ⌝ }
+    requires { ⌜ getD (now s) (at + 4) 0 ≡ 10 ⌝ }
+    ensures { λ r. ⌜ Did (stmtCode depth (now (s .entry)) end at (spanOf span)) w (now (out .entry)) (now (marks .entry)) r (now (out .exit)) (now (marks .exit)) ⌝ }
+{
+    let stop = end_of(s, at);
+    let below = depth - 1;
+    if s[at + 5] == 0 {
+        return returned(w, out);
+    }
+    if span.returns == 0 {
+        let w1 = node(s, at + 6, stop, below, Expression, span, w, out, marks);
+        return returned(w1, out);
+    }
+    let w2 = plain(w, tag::RETURN, 0, 0, out);
+    node(s, at + 6, stop, below, Expression, span, w2, out, marks)
+}

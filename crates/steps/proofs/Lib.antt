@@ -1,0 +1,4 @@
+pub mod StepLaws
+pub mod RunLaws
+mod LeafLaws
+mod FlagLaws

@@ -1,0 +1,318 @@
+-- One step of the walk after another. Assumes nothing.
+use Prim.Native.Nat.{ℕ, zero, suc, _+_, _-_, _*_, _/_, _%_, _^_, _≤_, _<_}
+use mathlib.Core.Path.{_≡_, refl, sym, ap, _∙_}
+use mathlib.Core.Bool.{Bool, true, false, cond}
+use mathlib.Core.List.{List, [], _∷_, _++_, append-nil}
+use lib.Dec.{leb}
+use lib.ListN.{length, set, take, drop, length-drop, drop-of-length-le, length-set}
+use lib.Seq.{take-all, drop-drop}
+use borrow.Author.Tests.{lt-ltb, le-ltb, lt-leb, le-leb, leb-true, leb-false}
+use borrow.Rule.Slice.PartMut.{putMid}
+use native.Mathlib.Omega.{arith}
+use Rattle.definitions.specs.Bytes.{bytes}
+use Rattle.definitions.specs.Tag.{tagSize, rowOf, WeakRefToRef, Nop}
+use Rattle.definitions.specs.Tag as definitions
+use Rattle.definitions.specs.Instr.{Instr, recordLength, recordBytes, size, plain}
+use Rattle.definitions.specs.Listing.{listingLength}
+use Rattle.definitions.specs.Code.{Code, done, _then_, label, many, Action, mark, new, emit, refuse, unmarked, labelLimit, act}
+use Rattle.definitions.specs.Lower.{require, jumpTo, jump, instr, weakToRef, nullTag, elementTag, nops, BlockSpan}
+use Rattle.instr.specs.Values.{written, rowIs}
+use Rattle.instr.specs.declared.tables.Row.{Row}
+use Rattle.definitions.specs.Answer.{Result, made, refusal, onward, checked}
+use Rattle.laws.proofs.Sizes.{size-is}
+use Rattle.laws.proofs.Results.{onward-assoc, onward-made}
+use Rattle.steps.specs.Running.{Cells, put, setMade, word, move, run}
+use Rattle.ir.specs.declared.Class.{Class}
+use Rattle.steps.specs.Walked.{codeOf, fillCode, groupLabel, openCode, ran, labelsOf, targetOf, Did, Emitted, Labelled, Left}
+use Rattle.steps.specs.declared.Counters.{Counters}
+use Rattle.steps.specs.declared.Target.{Target}
+use Rattle.steps.specs.declared.Target.the-variants.{Nowhere, Label}
+use Rattle.steps.specs.declared.Walk.{Walk}
+use Rattle.steps.specs.declared.Walk.the-variants.{Going, Stopped}
+
+-- 1. Single steps
+
+-- a walk that has stopped does nothing
+pub stays : (code : Code) (w : Walk) (o m : List ℕ) (n : _) → w ≡ Stopped n → Did code w o m w o m
+unfolding ran onward
+stays code w o m n e = rw e (record { same = refl; outs = refl; marked = refl })
+
+pub emit-stays : (code : Code) (w : Walk) (o : List ℕ) (n : _) → w ≡ Stopped n → Emitted code w o w o
+emit-stays code w o n e = record { did = λ m. stays code w o m n e }
+
+pub label-stays : (code : Code) (w : Walk) (m : List ℕ) (n : _) → w ≡ Stopped n → Labelled code w m w m
+label-stays code w m n e = record { did = λ o. stays code w o m n e }
+
+pub all-stays : (code : Code) (w : Walk) (n : _) → w ≡ Stopped n → Left code w w
+all-stays code w n e = record { did = λ o m. stays code w o m n e }
+
+abbrev cells : Counters → List ℕ → List ℕ → Cells
+cells k o m = record { offset = k .offset; labels = k .labels; count = k .count; out = o; marks = m }
+
+-- an action, of a walk that is going
+acts : (a : Action) (w : Walk) (k : Counters) (o m : List ℕ) (r : Walk) (o′ m′ : List ℕ) → w ≡ Going k →
+    ran r o′ m′ ≡ move a (cells k o m) → length o′ ≡ length o → length m′ ≡ length m → Did (act a) w o m r o′ m′
+unfolding ran onward run
+acts a w k o m r o′ m′ e q u v = rw e (record { same = q; outs = u; marked = v })
+
+pub mark-did : (w : Walk) (k : Counters) (m : List ℕ) (l : ℕ) (m′ : List ℕ) → w ≡ Going k → m′ ≡ setMade m l (k .offset) (k .labels) → length m′ ≡ length m → Labelled (act (mark l)) w m (Going k) m′
+unfolding ran move
+mark-did w k m l m′ e q u = record { did = λ o. acts _ w k o m (Going k) o m′ e (rw q) refl u }
+
+pub new-did : (w : Walk) (k : Counters) (m : List ℕ) (at : ℕ) (m′ : List ℕ) → k .labels < 65536 → w ≡ Going k → m′ ≡ set m (k .labels) 4294967295 →
+    Labelled (act (new at)) w m (Going (record { offset = k .offset; labels = k .labels + 1; count = k .count })) m′
+unfolding ran move unmarked labelLimit checked
+new-did w k m at m′ h e q = record { did = λ o. acts _ w k o m _ o m′ e (rw (q, move, lt-ltb (k .labels) 65536 h, checked)) refl (ap length q ∙ simp length-set) }
+
+pub new-stopped : (w : Walk) (k : Counters) (m : List ℕ) (at : ℕ) → 65536 ≤ k .labels → w ≡ Going k →
+    Labelled (act (new at)) w m (Stopped (record { number = 15; place = at; extra = 0 })) m
+unfolding ran move labelLimit checked
+new-stopped w k m at h e = record { did = λ o. acts _ w k o m _ o m e (rw (move, le-ltb (k .labels) 65536 h, checked)) refl refl }
+
+pub refuse-did : (w : Walk) (k : Counters) (n p x : ℕ) → w ≡ Going k → Left (act (refuse n p x)) w (Stopped (record { number = n; place = p; extra = x }))
+unfolding ran move
+refuse-did w k n p x e = record { did = λ o m. acts _ w k o m _ o m e refl refl refl }
+
+-- a record whose label fields are cut to sixteen bits has the same bytes
+pub bytes-cut : (v : ℕ) → bytes 2 (v % 2 ^ 16) ≡ bytes 2 v
+unfolding bytes
+bytes-cut v =
+    let a : (v % 2 ^ 16) / 256 % 256 ≡ v / 256 % 256 = omega arith in
+    let b : (v % 2 ^ 16) / 1 % 256 ≡ v / 1 % 256 = omega arith in
+    rw (a, b)
+
+byte-cut : (v : ℕ) → bytes 1 (v % 2 ^ 8) ≡ bytes 1 v
+unfolding bytes
+byte-cut v =
+    let b : (v % 2 ^ 8) / 1 % 256 ≡ v / 1 % 256 = omega arith in
+    rw b
+
+abbrev cut : Instr → Instr
+cut i = record { tag = i .tag; small = i .small % 2 ^ 8; first = i .first % 2 ^ 16; second = i .second % 2 ^ 16; line = i .line; flags = i .flags; value = i .value }
+
+put-cut : (o : List ℕ) (k : ℕ) (i : Instr) → put o k (cut i) ≡ put o k i
+unfolding put recordBytes
+put-cut o k i = simp (byte-cut (i .small), bytes-cut (i .first), bytes-cut (i .second))
+
+pub emit-did : (w : Walk) (k : Counters) (o : List ℕ) (i j : Instr) (size offset count : ℕ) (o′ : List ℕ) → w ≡ Going k →
+    j ≡ cut i → size ≡ tagSize (i .tag) → offset ≡ (k .offset + size) % 2 ^ 32 → count ≡ (k .count + 1) % 2 ^ 32 →
+    o′ ≡ put o (k .count) j → length o′ ≡ length o →
+    Emitted (act (emit i)) w o (Going (record { offset = offset; labels = k .labels; count = count })) o′
+unfolding ran move
+emit-did w k o i j size offset count o′ e q g h n p u = record { did = λ m. acts _ w k o m _ o′ m e (rw (p, q, put-cut o (k .count) i, h, n, g, size-is i)) u refl }
+
+take-drop-all : (n : ℕ) (l : List ℕ) → take n l ++ drop n l ≡ l
+take-drop-all zero l = refl
+take-drop-all (suc n) [] = refl
+take-drop-all (suc n) (x ∷ l) = ap (λ r. x ∷ r) (take-drop-all n l)
+
+-- a record, where it fits and where it does not
+pub put-out : (o : List ℕ) (k : ℕ) (i : Instr) → length o < 5 + 18 * k → o ≡ put o k i
+unfolding put
+put-out o k i h = rw (put, lt-leb (listingLength (k + 1)) (length o) (omega arith))
+
+pub put-in : (o : List ℕ) (k : ℕ) (i : Instr) (p : List ℕ) → 5 + 18 * k ≤ length o → p ≡ written i (take (length o - (5 + 18 * k)) (drop (5 + 18 * k) o)) →
+    putMid (5 + 18 * k) (length o - (5 + 18 * k)) o p ≡ put o k i
+unfolding put written
+put-in o k i p h e =
+    let all : take (length o - (5 + 18 * k)) (drop (5 + 18 * k) o) ≡ drop (5 + 18 * k) o = take-all (length o - (5 + 18 * k)) (drop (5 + 18 * k) o) (simp length-drop (omega arith)) in
+    let none : drop (length o - (5 + 18 * k)) (drop (5 + 18 * k) o) ≡ [] = drop-of-length-le (drop (5 + 18 * k) o) {i = length o - (5 + 18 * k)} (simp length-drop (omega arith)) in
+    let long : length (drop (5 + 18 * k) o) ≡ length o - (5 + 18 * k) = simp length-drop in
+    go (leb (5 + 18 * (k + 1)) (length o)) refl (rw all at e) none long
+  where
+    go : (b : Bool) → leb (5 + 18 * (k + 1)) (length o) ≡ b → p ≡ written i (drop (5 + 18 * k) o) → drop (length o - (5 + 18 * k)) (drop (5 + 18 * k) o) ≡ [] → length (drop (5 + 18 * k) o) ≡ length o - (5 + 18 * k)
+        → take (5 + 18 * k) o ++ (p ++ drop (length o - (5 + 18 * k)) (drop (5 + 18 * k) o)) ≡ put o k i
+    go true f q none long =
+        let z : 18 ≤ length (drop (5 + 18 * k) o) = omega (arith, long, leb-true (5 + 18 * (k + 1)) (length o) f) in
+        let w : 5 + 18 * k + 18 ≡ 5 + 18 * (k + 1) = omega arith in
+        let v : drop 18 (drop (5 + 18 * k) o) ≡ drop (5 + 18 * (k + 1)) o = drop-drop 18 (5 + 18 * k) o ∙ ap (λ x. drop x o) w in
+        rw (none, append-nil p, put, f, q, written, le-leb 18 (length (drop (5 + 18 * k) o)) z, v)
+    go false f q none long =
+        let z : length (drop (5 + 18 * k) o) < 18 = omega (arith, long, leb-false (5 + 18 * (k + 1)) (length o) f) in
+        rw (none, append-nil p, put, f, q, written, lt-leb 18 (length (drop (5 + 18 * k) o)) z) (take-drop-all (5 + 18 * k) o)
+
+-- 2. Steps in a row
+
+-- the same code by another name
+pub recode : {code code′ : Code} {w : Walk} {o m : List ℕ} {r : Walk} {o′ m′ : List ℕ} → code′ ≡ code → Did code w o m r o′ m′ → Did code′ w o m r o′ m′
+recode e d = record { same = rw e (d .same); outs = d .outs; marked = d .marked }
+
+-- a piece after another
+pub both : {p q : Code} {w : Walk} {o m : List ℕ} {r : Walk} {o′ m′ : List ℕ} {z : Walk} {o″ m″ : List ℕ} →
+    Did p w o m r o′ m′ → Did q r o′ m′ z o″ m″ → Did (p then q) w o m z o″ m″
+unfolding run
+both {p} {q} {w = w} {o = o} {m = m} a b = record {
+  same = b .same ∙ ap (λ x. onward x (run q)) (a .same) ∙ onward-assoc (ran w o m) (run p) (run q);
+  outs = b .outs ∙ a .outs;
+  marked = b .marked ∙ a .marked;
+}
+
+pub fresh-same : (at : ℕ) (k : ℕ → Code) (w : Walk) (o m : List ℕ) (l : ℕ) → l ≡ labelsOf w →
+    onward (onward (ran w o m) (run (act (new at)))) (run (k l)) ≡ onward (ran w o m) (run (label at k))
+unfolding ran onward labelsOf run
+fresh-same at k (Going c) o m l e = rw e
+fresh-same at k (Stopped q) o m l e = refl
+
+-- a fresh label, and the code that has it
+pub fresh : (at : ℕ) (k : ℕ → Code) {w : Walk} {o m : List ℕ} {l : ℕ} {w₁ : Walk} {o₁ m₁ : List ℕ} {w₂ : Walk} {o₂ m₂ : List ℕ} →
+    l ≡ labelsOf w → Did (act (new at)) w o m w₁ o₁ m₁ → Did (k l) w₁ o₁ m₁ w₂ o₂ m₂ → Did (label at k) w o m w₂ o₂ m₂
+fresh at k {w = w} {o = o} {m = m} {l = l} e a b = record {
+  same = b .same ∙ ap (λ x. onward x (run (k l))) (a .same) ∙ fresh-same at k w o m l e;
+  outs = b .outs ∙ a .outs;
+  marked = b .marked ∙ a .marked;
+}
+
+-- nothing was to be done
+pub nothing : {w : Walk} {o m : List ℕ} → Did done w o m w o m
+unfolding run
+nothing {w = w} {o = o} {m = m} = record { same = sym (onward-made (ran w o m)); outs = refl; marked = refl }
+
+pub left : {code : Code} {w r : Walk} {o m : List ℕ} → Left code w r → Did code w o m r o m
+left d = d .did _ _
+
+pub emitted : {code : Code} {w r : Walk} {o o′ m : List ℕ} → Emitted code w o r o′ → Did code w o m r o′ m
+emitted d = d .did _
+
+pub labelled : {code : Code} {w r : Walk} {o m m′ : List ℕ} → Labelled code w m r m′ → Did code w o m r o m′
+labelled d = d .did _
+
+-- a check
+pub require-passed : (w : Walk) (b : Bool) (n p x : ℕ) → b ≡ true → Left (require b n p x) w w
+unfolding require
+require-passed w b n p x e = rw e (record { did = λ o m. nothing })
+
+pub require-failed : (w r : Walk) (b : Bool) (n p x : ℕ) → b ≡ false → Left (act (refuse n p x)) w r → Left (require b n p x) w r
+unfolding require
+require-failed w r b n p x e d = rw e d
+
+-- a jump to a label, and the refusal where there is none
+pub jump-did : {w : Walk} {o : List ℕ} {r : Walk} {o′ : List ℕ} (number at : ℕ) (t : Target) (l : ℕ) → t ≡ Label l → Emitted (jump 0x1F l) w o r o′ → Emitted (jumpTo number at (targetOf t)) w o r o′
+unfolding jumpTo targetOf
+jump-did number at t l e d = rw e d
+
+pub no-jump : {w r : Walk} (o : List ℕ) (number at : ℕ) (t : Target) → t ≡ Nowhere → Left (act (refuse number at 0)) w r → Emitted (jumpTo number at (targetOf t)) w o r o
+unfolding jumpTo targetOf
+no-jump o number at t e d = rw e (record { did = λ m. d .did o m })
+
+pub set-out : (m : List ℕ) (l v : ℕ) → length m ≤ l → set m l v ≡ m
+set-out [] l v h = refl
+set-out (x ∷ m) zero v h = absurd (omega arith)
+set-out (x ∷ m) (suc l) v h = ap (λ r. x ∷ r) (set-out m l v (omega arith))
+
+-- leaves
+
+pub weak-none : (n : ℕ) (w : Walk) (o : List ℕ) → n ≡ 0 → Emitted (weakToRef n) w o w o
+unfolding weakToRef
+weak-none n w o e = rw e (record { did = λ m. nothing })
+
+pub weak-some : {w r : Walk} {o o′ : List ℕ} (n : ℕ) → (n ≡ 0 → ⊥) → Emitted (instr WeakRefToRef 0) w o r o′ → Emitted (weakToRef n) w o r o′
+unfolding weakToRef
+weak-some zero h d = absurd (h refl)
+weak-some (suc n) h d = d
+
+pub plain-did : {w r : Walk} {o o′ : List ℕ} (t n v m x : ℕ) (row : Row) → rowIs row ≡ rowOf t → m ≡ cond (row .small) n 0 → x ≡ cond (row .value) v 0 →
+    Emitted (act (emit (record { tag = t; small = m; first = 0; second = 0; line = 0; flags = 0; value = x }))) w o r o′ → Emitted (act (emit (plain t n v))) w o r o′
+plain-did t n v m x row e f g d =
+    let a : row .small ≡ rowOf t .small = ap (λ (y : definitions.Row). y .small) e in
+    let b : row .value ≡ rowOf t .value = ap (λ (y : definitions.Row). y .value) e in
+    rw (← a, ← b, ← f, ← g) d
+
+pub emitted-both : {p q : Code} {w r z : Walk} {o o′ o″ : List ℕ} → Emitted p w o r o′ → Emitted q r o′ z o″ → Emitted (p then q) w o z o″
+emitted-both a b = record { did = λ m. both (a .did m) (b .did m) }
+
+-- the same run in the same scope by another name
+pub rescope : (class : Class) (d : ℕ) (s : List ℕ) (end at : ℕ) {u u′ : BlockSpan} {w : Walk} {o m : List ℕ} {r : Walk} {o′ m′ : List ℕ} → u′ ≡ u → Did (fillCode class d s end at u′) w o m r o′ m′ → Did (fillCode class d s end at u) w o m r o′ m′
+rescope class d s end at e x = recode (ap (fillCode class d s end at) (sym e)) x
+
+-- two records with the same bytes and size are emitted alike
+alike : (i j : Instr) (w : Walk) (o m : List ℕ) → recordBytes j ≡ recordBytes i → tagSize (j .tag) ≡ tagSize (i .tag) → onward (ran w o m) (run (act (emit j))) ≡ onward (ran w o m) (run (act (emit i)))
+unfolding ran onward run move put
+alike i j (Going c) o m e f = rw (e, size-is j, size-is i, f)
+alike i j (Stopped q) o m e f = refl
+
+pub emit-alike : {i j : Instr} {w r : Walk} {o o′ : List ℕ} → recordBytes j ≡ recordBytes i → tagSize (j .tag) ≡ tagSize (i .tag) → Emitted (act (emit j)) w o r o′ → Emitted (act (emit i)) w o r o′
+emit-alike {i} {j} {w} {r} {o} {o′} e f d = record { did = λ m. record { same = d .did m .same ∙ alike i j w o m e f; outs = d .did m .outs; marked = d .did m .marked } }
+
+-- groups
+
+pub group-is : (t : Target) (w : Walk) (l : ℕ) → t ≡ Label l → l ≡ groupLabel t w
+unfolding groupLabel
+group-is t w l e = rw e
+
+pub group-new : (t : Target) (w : Walk) (l : ℕ) → t ≡ Nowhere → l ≡ labelsOf w → l ≡ groupLabel t w
+unfolding groupLabel
+group-new t w l e h = rw e h
+
+pub open-not : (t : Target) (at l : ℕ) (w : Walk) (m : List ℕ) → t ≡ Label l → Labelled (openCode t at) w m w m
+unfolding openCode
+open-not t at l w m e = rw e (record { did = λ o. nothing })
+
+pub open-new : (t : Target) (at : ℕ) {w r : Walk} {m m′ : List ℕ} → t ≡ Nowhere → Labelled (act (new at)) w m r m′ → Labelled (openCode t at) w m r m′
+unfolding openCode
+open-new t at e d = rw e d
+
+-- Nops
+
+-- `left` of n are left
+pub record NopsRest (n : ℕ) (w : Walk) (o : List ℕ) (left : ℕ) (v : Walk) (o′ : List ℕ) : Type 0 where
+  pub goes : (ps : List ℕ) → length ps ≡ n → (qs : List ℕ) × (length qs ≡ left) × ((m : List ℕ) → onward (ran v o′ m) (run (nops qs)) ≡ onward (ran w o m) (run (nops ps)))
+  pub outs : length o′ ≡ length o
+
+pub nops-start : (n : ℕ) (w : Walk) (o : List ℕ) → NopsRest n w o n w o
+nops-start n w o = record { goes = λ ps e. (ps, e, λ m. refl); outs = refl }
+
+nops-on : (left : ℕ) (v z : Walk) (o o′ : List ℕ) (qs : List ℕ) → 0 < left → length qs ≡ left → Emitted (instr Nop 0) v o z o′ →
+    (rs : List ℕ) × (length rs ≡ left - 1) × ((m : List ℕ) → onward (ran z o′ m) (run (nops rs)) ≡ onward (ran v o m) (run (nops qs)))
+unfolding nops run
+nops-on left v z o o′ [] h e d = absurd (omega (arith, e))
+nops-on left v z o o′ (q ∷ rs) h e d =
+    (rs, omega (arith, e), λ m. ap (λ x. onward x (run (nops rs))) (d .did m .same) ∙ onward-assoc (ran v o m) (run (instr Nop 0)) (run (nops rs)))
+
+pub nops-next : {n : ℕ} {w : Walk} {o : List ℕ} {left : ℕ} {v z : Walk} {o₁ o₂ : List ℕ} → NopsRest n w o left v o₁ → 0 < left → Emitted (instr Nop 0) v o₁ z o₂ → NopsRest n w o (left - 1) z o₂
+nops-next {left = left} {v = v} {z = z} {o₁ = o₁} {o₂ = o₂} r h d = record {
+  goes = λ ps e. let k = r .goes ps e in let j = nops-on left v z o₁ o₂ (k .0) h (k .1) d in (j .0, j .1, λ m. j .2 m ∙ k .2 m);
+  outs = d .did [] .outs ∙ r .outs;
+}
+
+no-nops : (qs : List ℕ) → length qs ≡ 0 → nops qs ≡ done
+unfolding nops
+no-nops [] e = refl
+no-nops (q ∷ qs) e = absurd (omega (arith, e))
+
+pub nops-end : {n : ℕ} {w : Walk} {o : List ℕ} {left : ℕ} {v : Walk} {o₁ : List ℕ} → NopsRest n w o left v o₁ → left ≤ 0 → (ps : List ℕ) → length ps ≡ n → Emitted (nops ps) w o v o₁
+unfolding run
+nops-end {v = v} {o₁ = o₁} r h ps e = record {
+  did = λ m. let k = r .goes ps e in
+      let z : nops (k .0) ≡ done = no-nops (k .0) (omega (arith, k .1)) in
+      let y : onward (ran v o₁ m) (run done) ≡ onward _ (run (nops ps)) = ap (λ c. onward (ran v o₁ m) (run c)) (sym z) ∙ k .2 m in
+      record { same = sym (onward-made (ran v o₁ m)) ∙ y; outs = r .outs; marked = refl };
+}
+
+pub null-none : (n : ℕ) → n ≡ 0 → 0x01 ≡ nullTag n
+unfolding nullTag
+null-none n e = rw e
+
+pub null-some : (n : ℕ) → (n ≡ 0 → ⊥) → 0x65 ≡ nullTag n
+unfolding nullTag
+null-some zero h = absurd (h refl)
+null-some (suc n) h = refl
+
+pub made-set : (m : List ℕ) (l v n : ℕ) {m′ : List ℕ} → l < n → m′ ≡ set m l v → m′ ≡ setMade m l v n
+unfolding setMade
+made-set m l v n h e = rw (lt-ltb l n h) e
+
+pub made-not : (m : List ℕ) (l v n : ℕ) → n ≤ l → m ≡ setMade m l v n
+unfolding setMade
+made-not m l v n h = rw (le-ltb l n h)
+
+pub element-static : (n : ℕ) → n ≡ 0 → 0x55 ≡ elementTag n
+unfolding elementTag
+element-static n e = rw e
+
+pub element-dynamic : (n : ℕ) → (n ≡ 0 → ⊥) → 0x48 ≡ elementTag n
+unfolding elementTag
+element-dynamic zero h = absurd (h refl)
+element-dynamic (suc n) h = refl
+
+pub none-emitted : {w : Walk} {o : List ℕ} → Emitted done w o w o
+none-emitted = record { did = λ m. nothing }

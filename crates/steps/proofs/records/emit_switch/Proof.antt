@@ -1,0 +1,22 @@
+use native.Mathlib.Omega.{arith}
+use borrow.Author.Needs.{needs}
+use Rattle.steps.proofs.records.emit_switch.Statement.{statement}
+use Rattle.steps.proofs.records.emit_switch.Tie as tie
+use Rattle.steps.proofs.records.emit_switch.Reads as reads
+use Rattle.steps.proofs.records.emit_switch.Lts as lts
+use Rattle.steps.proofs.records.emit.Reads as emit-reads
+
+-- src/steps.rt:178:5
+emit-requires : tie.Need-emit-requires
+emit-requires c κs = search needs
+
+-- src/steps.rt:175:1
+returns : tie.Need-returns
+returns c = c .before .before .emit .ensures
+
+-- src/steps.rt:175:1
+same-length : tie.Need-same-length
+same-length c = search needs
+
+pub emit-switch-spec : {M : Type 1} → statement M
+emit-switch-spec = tie.close (tie.spec emit-requires same-length returns)

@@ -1,0 +1,16 @@
+use mathlib.Core.Path.{refl}
+use Rattle.steps.specs.Walked.{spanOf, targetOf}
+use borrow.Author.Needs.{needs}
+use native.Mathlib.Omega.{arith}
+use Rattle.steps.proofs.spans.in_loop.Statement.{statement}
+use Rattle.steps.proofs.spans.in_loop.Tie as tie
+use Rattle.steps.proofs.spans.in_loop.Reads as reads
+use Rattle.steps.proofs.spans.in_loop.Lts as lts
+
+-- src/steps.rt:316:1
+returns : tie.Need-returns
+unfolding spanOf targetOf
+returns c = refl
+
+pub in-loop-spec : {M : Type 1} → statement M
+in-loop-spec = tie.close (tie.spec returns)

@@ -1,0 +1,18 @@
+use Rattle.steps.proofs.StepLaws.{element-static, element-dynamic}
+use borrow.Author.Needs.{needs}
+use native.Mathlib.Omega.{arith}
+use Rattle.steps.proofs.tags.element_tag.Statement.{statement}
+use Rattle.steps.proofs.tags.element_tag.Tie as tie
+use Rattle.steps.proofs.tags.element_tag.Reads as reads
+use Rattle.steps.proofs.tags.element_tag.Lts as lts
+
+-- src/steps.rt:352:9
+returns : tie.Need-returns
+returns c = element-static _ (c .if1 .taken)
+
+-- src/steps.rt:348:1
+returns-2 : tie.Need-returns-2
+returns-2 c = element-dynamic _ (c .if1 .left)
+
+pub element-tag-spec : {M : Type 1} → statement M
+element-tag-spec = tie.close (tie.spec returns returns-2)

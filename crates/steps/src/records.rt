@@ -1,0 +1,180 @@
+// Records: each is written where it fits.
+ghost use mathlib.Core.Path.{_≡_};
+ghost use mathlib.Core.Bool.{cond};
+ghost use Prim.Native.Nat.{_^_, _%_};
+ghost use Rattle.definitions.specs.Tag.{tagSize};
+ghost use Rattle.definitions.specs.Instr.{plain};
+ghost use Rattle.definitions.specs.Code.{Action, emit, act};
+ghost use Rattle.definitions.specs.Lower.{jump, jumps, emitSwitch, invoke};
+ghost use Rattle.steps.specs.Running.{put};
+ghost use Rattle.instr.specs.Values as Values;
+ghost use Rattle.steps.specs.Walked.{instrOf, Emitted};
+use crate::Counters;
+use crate::Op;
+use crate::Walk;
+use instr::listings;
+use instr::records;
+use instr::records::Record;
+use instr::tables;
+use instr::tag;
+use std::num::wrapping_add_u32;
+
+// Record k, where it fits.
+pub(crate) fn put_record(out: &mut [u8], k: u32, r: Record)
+    ensures { λ _. ⌜ now (out .exit) ≡ put (now (out .entry)) k (Values.instrOf r) ⌝ }
+{
+    let from = listings::FRONT + Record::LENGTH * (k as usize);
+    if from <= out.len() {
+        records::write_record(&mut out[from..], r);
+    }
+}
+
+// The record, each field cut to its width. No bit is lost: what the walk of a unit emits is within the widths (landing's emitted-records).
+pub(crate) fn record_of(op: Op) -> Record
+    ensures { λ r. ⌜ Values.instrOf r ≡ record { tag = op .tag; small = op .small % 2 ^ 8; first = op .first % 2 ^ 16; second = op .second % 2 ^ 16; line = op .line; flags = op .flags; value = op .value } ⌝ }
+{
+    Record {
+        tag: op.tag,
+        small: (op.small % 256) as u8,
+        first: (op.first % 65536) as u16,
+        second: (op.second % 65536) as u16,
+        line: op.line,
+        flags: op.flags,
+        value: op.value,
+    }
+}
+
+fn size_of(tag: u8) -> u32
+    ensures { λ r. ⌜ r ≡ tagSize tag ⌝ }
+{
+    tables::size_of(tag) as u32
+}
+
+// The next record. Neither sum wraps in the walk of a unit: after every action both are the definition's, far below 2^32 (assemble's unwrapped).
+pub fn emit(w: Walk, op: Op, out: &mut [u8]) -> Walk
+    ensures { λ r. ⌜ Emitted (act (Action.emit (instrOf op))) w (now (out .entry)) r (now (out .exit)) ⌝ }
+{
+    let Walk::Going(c) = w else {
+        return w;
+    };
+    put_record(out, c.count, record_of(op));
+    Walk::Going(Counters {
+        offset: wrapping_add_u32(c.offset, size_of(op.tag)),
+        labels: c.labels,
+        count: wrapping_add_u32(c.count, 1),
+    })
+}
+
+// A field, where the tag uses it.
+pub(crate) fn masked(used: bool, v: usize) -> usize
+    ensures { λ r. ⌜ r ≡ cond «used» v 0 ⌝ }
+{
+    if used {
+        return v;
+    }
+    0
+}
+
+// A record with no label.
+pub fn plain(w: Walk, tag: u8, small: usize, value: usize, out: &mut [u8]) -> Walk
+    ensures { λ r. ⌜ Emitted (act (Action.emit (plain tag small value))) w (now (out .entry)) r (now (out .exit)) ⌝ }
+{
+    let row = tables::row_of(tag);
+    let m = masked(row.small, small);
+    let v = masked(row.value, value);
+    emit(
+        w,
+        Op {
+            tag: tag,
+            small: m,
+            first: 0,
+            second: 0,
+            line: 0,
+            flags: 0,
+            value: v as u64,
+        },
+        out,
+    )
+}
+
+// With one label.
+pub fn jump(w: Walk, tag: u8, to: usize, out: &mut [u8]) -> Walk
+    ensures { λ r. ⌜ Emitted (jump tag to) w (now (out .entry)) r (now (out .exit)) ⌝ }
+{
+    emit(
+        w,
+        Op {
+            tag: tag,
+            small: 0,
+            first: to,
+            second: 0,
+            line: 0,
+            flags: 0,
+            value: 0,
+        },
+        out,
+    )
+}
+
+// Conditional and SwitchLabel.
+pub fn jumps(w: Walk, tag: u8, first: usize, second: usize, out: &mut [u8]) -> Walk
+    ensures { λ r. ⌜ Emitted (jumps tag first second) w (now (out .entry)) r (now (out .exit)) ⌝ }
+{
+    emit(
+        w,
+        Op {
+            tag: tag,
+            small: 0,
+            first: first,
+            second: second,
+            line: 0,
+            flags: 0,
+            value: 0,
+        },
+        out,
+    )
+}
+
+pub fn emit_switch(w: Walk, typ: usize, first: usize, out: &mut [u8]) -> Walk
+    ensures { λ r. ⌜ Emitted (emitSwitch typ first) w (now (out .entry)) r (now (out .exit)) ⌝ }
+{
+    emit(
+        w,
+        Op {
+            tag: tag::SWITCH,
+            small: 0,
+            first: first,
+            second: 0,
+            line: 0,
+            flags: 0,
+            value: typ as u64,
+        },
+        out,
+    )
+}
+
+pub fn invoke(
+    w: Walk,
+    tag: u8,
+    exit: usize,
+    line: u16,
+    flags: u16,
+    value: usize,
+    out: &mut [u8],
+) -> Walk
+    ensures { λ r. ⌜ Emitted (invoke tag exit line flags value) w (now (out .entry)) r (now (out .exit)) ⌝ }
+{
+    emit(
+        w,
+        Op {
+            tag: tag,
+            small: 0,
+            first: exit,
+            second: 0,
+            line: line,
+            flags: flags,
+            value: value as u64,
+        },
+        out,
+    )
+}
