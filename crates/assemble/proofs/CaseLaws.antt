@@ -22,38 +22,12 @@ use Rattle.steps.specs.declared.Target.{Target}
 use Rattle.steps.specs.declared.Target.the-variants.{Nowhere, Label}
 use Rattle.steps.specs.declared.Walk.{Walk}
 use Rattle.laws.proofs.Results.{onward-assoc, onward-made}
-use Rattle.steps.proofs.StepLaws.{labelled, emitted, recode}
-use Rattle.steps.proofs.RunLaws.{Goes, goes-on, one-step, fresh-step, renamed, goes-last, goes-end, Rest, rest-start, rest-next, rest-end, Turn, turn}
+use Rattle.steps.proofs.StepLaws.{labelled, emitted, recode, SameRun, same-assoc, same-right, same-on, same-done}
+use Rattle.steps.proofs.RunLaws.{Goes, goes-same, goes-on, one-step, fresh-step, renamed, goes-last, goes-end, Rest, rest-start, rest-next, rest-end, Turn, turn}
 use Rattle.assemble.proofs.StmtCode.{ArmHere, arm-here}
 use Rattle.assemble.proofs.ExprCode.{child}
 
--- 1. Code that runs alike
-
-pub record SameRun (p q : Code) : Type 0 where
-  pub alike : (s : Cells) → run p s ≡ run q s
-
-pub onward-cong : (x : Result Cells) (f g : Cells → Result Cells) → ((s : Cells) → f s ≡ g s) → onward x f ≡ onward x g
-unfolding onward
-onward-cong (made s) f g h = h s
-onward-cong (refusal n p x) f g h = refl
-
-pub same-assoc : (a b c : Code) → SameRun (a then (b then c)) ((a then b) then c)
-unfolding run
-same-assoc a b c = record { alike = λ s. sym (onward-assoc (run a s) (run b) (run c)) }
-
-pub same-right : (p : Code) {q q′ : Code} → SameRun q q′ → SameRun (p then q) (p then q′)
-unfolding run
-same-right p {q} {q′} h = record { alike = λ s. onward-cong (run p s) (run q) (run q′) (h .alike) }
-
-pub same-on : {p q r : Code} → SameRun p q → SameRun q r → SameRun p r
-same-on a b = record { alike = λ s. a .alike s ∙ b .alike s }
-
-pub same-done : (p : Code) → SameRun p (done then p)
-unfolding run onward
-same-done p = record { alike = λ s. refl }
-
-pub goes-same : {p q : Code} (w : Walk) (o m : List ℕ) → SameRun p q → Goes p w o m q w o m
-goes-same {p} {q} w o m h = record { same = onward-cong (ran w o m) (run q) (run p) (λ s. sym (h .alike s)); outs = refl; marked = refl }
+-- 1. Steps
 
 -- nothing was done
 pub skip-step : (p : Code) {w v : Walk} {o m o′ m′ : List ℕ} → Did done w o m v o′ m′ → Goes p w o m p v o′ m′

@@ -2,23 +2,20 @@
 use Prim.Native.Nat.{ℕ, zero, suc, _+_, _-_, _≤_, _<_}
 use mathlib.Core.Path.{_≡_, refl, sym, ap, _∙_}
 use mathlib.Core.List.{List, [], _∷_}
-use mathlib.Core.Bool.{Bool, _&&_}
-use lib.Dec.{eqb, ltb}
 use native.Mathlib.Omega.{arith}
 use lib.ListN.{length, getD}
 use Rattle.definitions.specs.Answer.{ok}
 use Rattle.definitions.specs.Bytes.{number}
-use Rattle.definitions.specs.Tag.{Nop, ParamEnd, Skip, New, StructField, Context, ObjectField, Conditional, Assign, Construct, DynamicCast, InvokeVirtual, intrinsicOf}
-use Rattle.definitions.specs.Tree.{Callee, Expr, exprsOf, lengthExprs}
-use Rattle.definitions.specs.Instr.{plain}
-use Rattle.definitions.specs.Read.{parseExpr, filling}
-use Rattle.definitions.specs.Code.{Code, mark, emit, act, label, _then_}
-use Rattle.definitions.specs.Lower.{BlockSpan, require, invoke, nullTag, localTag, instr, jump, jumps, weakToRef, lowerField, lowerExpr, lowerArgs, lowerArg, emitCall, emitInvoke, requireFlags, flagsOf, elementTag}
+use Rattle.definitions.specs.Tag.{ParamEnd, Skip, StructField, Context, ObjectField, Conditional, InvokeVirtual}
+use Rattle.definitions.specs.Tree.{Callee, Expr, exprsOf}
+use Rattle.definitions.specs.Read.{parseExpr}
+use Rattle.definitions.specs.Code.{Code, mark, act, label, _then_}
+use Rattle.definitions.specs.Lower.{BlockSpan, invoke, instr, jump, jumps, weakToRef, lowerField, lowerExpr, lowerArgs, lowerArg, emitCall, emitInvoke, requireFlags, flagsOf}
 use Rattle.ir.specs.Places.{endOf, ExprAt, RunAt, CallAt}
 use Rattle.ir.specs.declared.Class.the-variants.{Expression}
 use Rattle.ir.proofs.Inversion.{expr-at}
-use Rattle.ir.proofs.ExprPlaces.{nop-at, const-at, null-at, new-instance-at, construct-at, dyn-cast-at, local-at, intrinsic-at, instance-call-at, closure-call-at, assign-at, field-at, index-at, conditional-at, free-call-at, static-call-at, no-other}
-use Rattle.steps.specs.Walked.{Accepted, codeOf, listOf, exprCode, fillCode, constCode, exprsFrom, argsAt, argsCode, calleeAt, marksFrom, callCode, Called, Nones}
+use Rattle.ir.proofs.ExprPlaces.{instance-call-at, closure-call-at, field-at, conditional-at, free-call-at, static-call-at}
+use Rattle.steps.specs.Walked.{Accepted, codeOf, listOf, exprCode, fillCode, exprsFrom, argsAt, argsCode, calleeAt, marksFrom, callCode, Called}
 
 -- a child that is read, within its holder
 pub record Here (d : ℕ) (s : List ℕ) (holder at next : ℕ) : Type 0 where
@@ -40,11 +37,6 @@ child {d} {s} {holder} {at} {e} {next} k = sym (code-of d s holder at e next (k 
 
 pub run-at : (d : ℕ) {s : List ℕ} {stop : ℕ} {args : List Expr} (at first : ℕ) → at + 4 ≡ first → RunAt s stop (parseExpr d s) at args stop → (first ≤ stop) × Accepted (exprsFrom d s stop first)
 run-at d {stop = stop} {args = args} at first e k = rw (← e) (k .head, (args, stop, k .reads))
-
-pub long-exprs : (xs : List Expr) → lengthExprs (exprsOf xs) ≡ length xs
-unfolding lengthExprs exprsOf
-long-exprs [] = refl
-long-exprs (x ∷ xs) = ap suc (long-exprs xs)
 
 -- a call, by its bytes
 
@@ -89,27 +81,6 @@ module _ (depth : ℕ) (s : List ℕ) (end at : ℕ) (acc : Accepted (parseExpr 
     reads : parseExpr depth s end at ≡ ok (acc .0) stop
     reads = let k = expr-at depth s end at (acc .2) in acc .2 ∙ ap (ok (acc .0)) (k .ends ∙ sym e)
 
-    pub nop-code : getD s (at + 4) 0 ≡ 1 → exprCode depth s end at ≡ instr Nop 0
-    unfolding lowerExpr
-    nop-code k = whole ∙ ap lowerExpr (nop-at depth s end at (acc .0) stop reads k .tree)
-
-    pub const-code : getD s (at + 4) 0 ≡ 2 → (at + 6 ≤ stop) × (getD s (at + 5) 0 < 16) × (exprCode depth s end at ≡ constCode s at)
-    unfolding lowerExpr constCode
-    const-code k = let c = const-at depth s end at (acc .0) stop reads k in (omega (arith, c .byte .fits), c .byte .small, whole ∙ ap lowerExpr (c .tree))
-
-    -- two expressions
-    pub record AssignHere (second : ℕ) : Type 0 where
-      pub one : Here (depth - 1) s stop (at + 5) second
-      pub two : Here (depth - 1) s stop second stop
-      pub code : exprCode depth s end at ≡ instr Assign 0 then exprCode (depth - 1) s stop (at + 5) then exprCode (depth - 1) s stop second
-
-    pub assign-here : (second : ℕ) → second ≡ endOf s (at + 5) → getD s (at + 4) 0 ≡ 6 → AssignHere second
-    unfolding lowerExpr
-    assign-here second e2 kind =
-        let k = assign-at depth s end at (acc .0) stop reads kind in
-        let a : k .second ≡ second = k .one .ends ∙ sym e2 in
-        rw (← a) (record { one = here (k .one); two = here (k .two); code = whole ∙ ap lowerExpr (k .tree) ∙ rw (child (k .one), child (k .two)) })
-
     -- a field: its form, its name and the object or struct
     pub record FieldHere (form name : ℕ) : Type 0 where
       pub one : Here (depth - 1) s stop (at + 10) stop
@@ -120,76 +91,6 @@ module _ (depth : ℕ) (s : List ℕ) (end at : ℕ) (acc : Accepted (parseExpr 
     field-here form name f n kind =
         let k = field-at depth s end at (acc .0) stop reads kind in
         rw (f, n) (record { one = here (k .one); code = whole ∙ ap lowerExpr (k .tree) ∙ ap (lowerField at (getD s (at + 5) 0) (number 4 s (at + 6))) (child (k .one)) })
-
-    pub null-here : (tag : ℕ) → tag ≡ nullTag (getD s (at + 5) 0) → getD s (at + 4) 0 ≡ 3 → exprCode depth s end at ≡ instr tag 0
-    unfolding lowerExpr
-    null-here tag e kind = rw e (whole ∙ ap lowerExpr (null-at depth s end at (acc .0) stop reads kind .tree))
-
-    pub null-fits : getD s (at + 4) 0 ≡ 3 → at + 6 ≡ stop
-    null-fits kind = null-at depth s end at (acc .0) stop reads kind .ends
-
-    pub new-here : (class : ℕ) → class ≡ number 4 s (at + 5) → getD s (at + 4) 0 ≡ 4 → exprCode depth s end at ≡ instr New class
-    unfolding lowerExpr
-    new-here class e kind = rw e (whole ∙ ap lowerExpr (new-instance-at depth s end at (acc .0) stop reads kind .tree))
-
-    pub new-fits : getD s (at + 4) 0 ≡ 4 → at + 9 ≡ stop
-    new-fits kind = new-instance-at depth s end at (acc .0) stop reads kind .ends
-
-    -- a class and arguments
-    pub construct-run : getD s (at + 4) 0 ≡ 5 → (at + 13 ≤ stop) × Accepted (exprsFrom (depth - 1) s stop (at + 13))
-    construct-run kind = let k = construct-at depth s end at (acc .0) stop reads kind in run-at (depth - 1) (at + 9) (at + 13) (omega arith) (k .run)
-
-    pub construct-here : (span : BlockSpan) (n class : ℕ) → n ≡ length (listOf (exprsFrom (depth - 1) s stop (at + 13))) → class ≡ number 4 s (at + 5) → getD s (at + 4) 0 ≡ 5 →
-        exprCode depth s end at ≡ require (ltb n 256) 12 at n then act (emit (plain Construct n class)) then fillCode Expression (depth - 1) s stop (at + 13) span
-    unfolding lowerExpr codeOf listOf
-    construct-here span n class e f kind =
-        let k = construct-at depth s end at (acc .0) stop reads kind in
-        let r : exprsFrom (depth - 1) s stop (at + 13) ≡ ok (k .args) stop = let z : at + 9 + 4 ≡ at + 13 = omega arith in rw z at (k .run .reads) in
-        rw (e, f, r) (whole ∙ ap lowerExpr (k .tree) ∙ rw (long-exprs (k .args)))
-
-    -- an element: two expressions
-    pub record IndexHere (tag type second : ℕ) : Type 0 where
-      pub one : Here (depth - 1) s stop (at + 10) second
-      pub two : Here (depth - 1) s stop second stop
-      pub code : exprCode depth s end at ≡ instr tag type then exprCode (depth - 1) s stop (at + 10) then exprCode (depth - 1) s stop second
-
-    pub index-here : (tag type second : ℕ) → tag ≡ elementTag (getD s (at + 5) 0) → type ≡ number 4 s (at + 6) → second ≡ endOf s (at + 10) → getD s (at + 4) 0 ≡ 8 → IndexHere tag type second
-    unfolding lowerExpr
-    index-here tag type second f g e2 kind =
-        let k = index-at depth s end at (acc .0) stop reads kind in
-        let a : k .second ≡ second = k .one .ends ∙ sym e2 in
-        rw (← a, f, g) (record { one = here (k .one); two = here (k .two); code = whole ∙ ap lowerExpr (k .tree) ∙ rw (child (k .one), child (k .two)) })
-
-    -- a class, whether it is weak, and an expression
-    pub record CastHere (weak class : ℕ) : Type 0 where
-      pub one : Here (depth - 1) s stop (at + 10) stop
-      pub code : exprCode depth s end at ≡ act (emit (plain DynamicCast weak class)) then exprCode (depth - 1) s stop (at + 10)
-
-    pub cast-here : (weak class : ℕ) → weak ≡ getD s (at + 9) 0 → class ≡ number 4 s (at + 5) → getD s (at + 4) 0 ≡ 10 → CastHere weak class
-    unfolding lowerExpr
-    cast-here weak class f g kind =
-        let k = dyn-cast-at depth s end at (acc .0) stop reads kind in
-        rw (f, g) (record { one = here (k .one); code = whole ∙ ap lowerExpr (k .tree) ∙ rw (child (k .one)) })
-
-    pub local-here : (tag i : ℕ) → tag ≡ localTag (getD s (at + 5) 0) → i ≡ number 4 s (at + 6) → getD s (at + 4) 0 ≡ 11 → exprCode depth s end at ≡ instr tag i
-    unfolding lowerExpr
-    local-here tag i e f kind = rw (e, f) (whole ∙ ap lowerExpr (local-at depth s end at (acc .0) stop reads kind .tree))
-
-    pub local-fits : getD s (at + 4) 0 ≡ 11 → at + 10 ≡ stop
-    local-fits kind = local-at depth s end at (acc .0) stop reads kind .ends
-
-    -- an intrinsic: its code, its marks, its index and arguments
-    pub intrinsic-run : getD s (at + 4) 0 ≡ 12 → (getD s (at + 5) 0 < 34) × (at + 16 ≤ stop) × Accepted (exprsFrom (depth - 1) s stop (at + 16))
-    intrinsic-run kind = let k = intrinsic-at depth s end at (acc .0) stop reads kind in let r = run-at (depth - 1) (at + 12) (at + 16) (omega arith) (k .run) in (k .code .small, r .0, r .1)
-
-    pub intrinsic-here : (span : BlockSpan) (fits : Bool) (code short types tag small i : ℕ) → fits ≡ (eqb short 0 && eqb types (intrinsicOf code .types)) →
-        code ≡ getD s (at + 5) 0 → short ≡ getD s (at + 6) 0 → types ≡ getD s (at + 7) 0 → tag ≡ intrinsicOf code .tag → small ≡ intrinsicOf code .small → i ≡ number 4 s (at + 8) → getD s (at + 4) 0 ≡ 12 →
-        exprCode depth s end at ≡ require fits 14 at 0 then act (emit (plain tag small i)) then fillCode Expression (depth - 1) s stop (at + 16) span
-    unfolding lowerExpr codeOf
-    intrinsic-here span fits code short types tag small i e f g h p q j kind =
-        let k = intrinsic-at depth s end at (acc .0) stop reads kind in
-        let r : exprsFrom (depth - 1) s stop (at + 16) ≡ ok (k .args) stop = let z : at + 12 + 4 ≡ at + 16 = omega arith in rw z at (k .run .reads) in
-        rw (e, p, q, f, g, h, j, r) (whole ∙ ap lowerExpr (k .tree))
 
     -- an instance call: its receiver, then the function at `second`
     pub record InstanceHere (weak second : ℕ) : Type 0 where
@@ -290,8 +191,3 @@ pub short-arg : (site short : ℕ) (p : Code) → (short ≡ 0 → ⊥) → lowe
 unfolding lowerArg
 short-arg site zero p h = absurd (h refl)
 short-arg site (suc n) p h = refl
-
--- no other kind is read
-pub no-late : {X : Type 0} (depth : ℕ) (s : List ℕ) (end at : ℕ) → Accepted (parseExpr depth s end at) → Nones 0 9 (getD s (at + 4) 0) → Nones 9 7 (getD s (at + 4) 0) → X
-no-late depth s end at acc a n =
-    no-other depth s end at (acc .0) (acc .1) (acc .2) (((((((a, n .0 .0 .0 .0 .0 .0 .1), n .0 .0 .0 .0 .0 .1), n .0 .0 .0 .0 .1), n .0 .0 .0 .1), n .0 .0 .1), n .0 .1), n .1)

@@ -6,9 +6,10 @@ use mathlib.Core.List.{List, [], _∷_}
 use mathlib.Core.Option.{none}
 use native.Mathlib.Omega.{arith}
 use lib.Dec.{eqb, ltb, leb}
-use lib.ListN.{length}
+use lib.ListN.{length, getD}
 use borrow.Author.Tests.{le-leb, ne-eqb, eq-eqb, ltb-true, ltb-false, eqb-true, eqb-false}
 use Rattle.definitions.specs.Answer.{Answer, ok, refused, Result, onward}
+use Rattle.definitions.specs.Bytes.{number}
 use Rattle.definitions.specs.Tag.{SwitchDefault, Jump}
 use Rattle.definitions.specs.Tree.{Expr, Block, Default, absent, present, blockOf, casesOf, lengthCases, isPresent}
 use Rattle.definitions.specs.Read.{Parser, filling, arm, blockIf, give, parseExpr, parseStmt}
@@ -19,13 +20,13 @@ use Rattle.ir.specs.declared.Class.the-variants.{Statement}
 use Rattle.ir.proofs.Inversion.{fill-none}
 use Rattle.ir.proofs.StmtPlaces.{arm-at, arm-moves}
 use Rattle.steps.specs.Running.{Cells, run, move}
-use Rattle.steps.specs.Walked.{Accepted, Ended, DefaultHere, armsFrom, listOf, codeOf, ran, labelsOf, defaultFrom, defaultOf, defaultAnswer, midCode, insideCode, fillCode, markIf, sameAs, Did, Emitted, Labelled}
+use Rattle.steps.specs.Walked.{Accepted, Ended, DefaultHere, Cased, armsFrom, casesFrom, listOf, codeOf, ran, labelsOf, defaultFrom, defaultOf, defaultAnswer, midCode, insideCode, fillCode, markIf, sameAs, Did, Emitted, Labelled}
 use Rattle.steps.specs.declared.Walk.{Walk}
-use Rattle.laws.proofs.Results.{onward-assoc}
-use Rattle.steps.proofs.StepLaws.{fresh-same, labelled, emitted, recode, both, nothing}
-use Rattle.steps.proofs.RunLaws.{Goes, goes-on, one-step, renamed, goes-last, goes-end, Rest, rest-start, rest-next, rest-end, Turn, turn, listed}
+use Rattle.laws.proofs.Results.{onward-assoc, onward-same}
+use Rattle.steps.proofs.StepLaws.{fresh-same, labelled, emitted, recode, both, nothing, SameRun, same-assoc, same-right, same-on, same-done}
+use Rattle.steps.proofs.RunLaws.{Goes, goes-same, goes-on, one-step, renamed, goes-last, goes-end, Rest, rest-start, rest-next, rest-end, Turn, turn, listed}
 use Rattle.assemble.proofs.StmtCode.{ArmHere, arm-here, default-code, no-default-code, some-default, no-default, default-some, block-code}
-use Rattle.assemble.proofs.CaseLaws.{SameRun, onward-cong, same-assoc, same-right, same-on, same-done, goes-same, skip-step, armOf, arm-ends, arm-code-is, bodiesFrom, bodies-below, bodies-at, bodies-above}
+use Rattle.assemble.proofs.CaseLaws.{skip-step, armOf, arm-ends, arm-code-is, bodiesFrom, bodies-below, bodies-at, bodies-above}
 
 -- 1. Counting
 
@@ -205,20 +206,20 @@ unfolding many run onward
 many-back at zero p = record { alike = λ s. refl }
 many-back at (suc k) p = record {
   alike = λ s.
-      onward-assoc (move (new at) s) (run (many at k done)) (run p) ∙ onward-cong (move (new at) s) (run (many at k done then p)) (run (many at k p)) (many-back at k p .alike);
+      onward-assoc (move (new at) s) (run (many at k done)) (run p) ∙ onward-same (move (new at) s) (run (many at k done then p)) (run (many at k p)) (λ c _. (many-back at k p .alike) c);
 }
 
 first-of : (at n : ℕ) (p : Code) → SameRun (many at (n + 1) done then p) (act (new at) then many at n p)
 unfolding many run
 first-of at n p =
     let e : n + 1 ≡ suc n = omega arith in
-    rw e (record { alike = λ s. onward-assoc (move (new at) s) (run (many at n done)) (run p) ∙ onward-cong (move (new at) s) (run (many at n done then p)) (run (many at n p)) (many-back at n p .alike) })
+    rw e (record { alike = λ s. onward-assoc (move (new at) s) (run (many at n done)) (run p) ∙ onward-same (move (new at) s) (run (many at n done then p)) (run (many at n p)) (λ c _. (many-back at n p .alike) c) })
 
 fresh-many : (at n : ℕ) (k : ℕ → Code) (l : ℕ) {w v : Walk} {o m m′ : List ℕ} → l ≡ labelsOf w → Labelled (many at (n + 1) done) w m v m′ → Goes (label at (λ b. many at n (k b))) w o m (k l) v o m′
 unfolding run
 fresh-many at n k l {w = w} {o = o} {m = m} e d = record {
   same = ap (λ x. onward x (run (k l))) (d .did o .same) ∙ onward-assoc (ran w o m) (run (many at (n + 1) done)) (run (k l))
-      ∙ onward-cong (ran w o m) (run (many at (n + 1) done then k l)) (run (act (new at) then many at n (k l))) (first-of at n (k l) .alike)
+      ∙ onward-same (ran w o m) (run (many at (n + 1) done then k l)) (run (act (new at) then many at n (k l))) (λ c _. (first-of at n (k l) .alike) c)
       ∙ sym (onward-assoc (ran w o m) (run (act (new at))) (run (many at n (k l)))) ∙ fresh-same at (λ b. many at n (k b)) w o m l e;
   outs = refl;
   marked = d .did o .marked;
@@ -250,6 +251,12 @@ default-one there d s stop end here h u = let k = here h in (k .0, sym (some-def
 
 pub default-any : (there d : ℕ) (s : List ℕ) (stop end : ℕ) → DefaultHere 1 d s stop end → DefaultHere there d s stop end
 default-any there d s stop end x h = let k = x (λ z. absurd (omega (arith, z))) in (k .0, some-default there d s stop end h ∙ k .1)
+
+-- the code inside a switch, where its fields are given
+abbrev insideFor : (there index d : ℕ) (s : List ℕ) (end at stop site first : ℕ) → BlockSpan → Code
+insideFor there index d s end at stop site first sc =
+    codeOf (λ cs. cond (midDefault (defaultOf there d s stop end) index (casesOf cs)) (midCode cs site first index (defaultOf there d s stop end) sc)
+    (lowerCases (casesOf cs) site first none sc then lowerLast (defaultOf there d s stop end) sc)) (armsFrom d s end at)
 
 module _ (d : ℕ) (s : List ℕ) (end at stop site first index n : ℕ) (sc : BlockSpan) (acc : Accepted (armsFrom d s end at)) (count : n ≡ length (listOf (armsFrom d s end at))) where
   cases-long : n ≡ lengthCases (casesOf (acc .0))
@@ -296,12 +303,11 @@ module _ (d : ℕ) (s : List ℕ) (end at stop site first index n : ℕ) (sc : B
     abbrev insideOf : Bool → Code
     insideOf b = cond b (midCode (acc .0) site first index (defaultOf there d s stop end) sc) (lowerCases (casesOf (acc .0)) site first none sc then lowerLast (defaultOf there d s stop end) sc)
 
-    inside-is : (b : Bool) → b ≡ (not (eqb there 0) && ltb index n) → insideCode there index d s end at stop site first sc ≡ insideOf b
-    unfolding insideCode
+    inside-is : (b : Bool) → b ≡ (not (eqb there 0) && ltb index n) → insideFor there index d s end at stop site first sc ≡ insideOf b
     inside-is b e = code-is _ (armsFrom d s end at) (acc .0) (acc .1) (acc .2) ∙ ap insideOf (mid-test ∙ sym e)
 
     pub inside-mid : (b : Bool) {w r : Walk} {o m o′ m′ : List ℕ} → b ≡ (not (eqb there 0) && ltb index n) → b ≡ true →
-        Did (codeOf (λ cs. midCode cs site first index (defaultOf 1 d s stop end) sc) (armsFrom d s end at)) w o m r o′ m′ → Did (insideCode there index d s end at stop site first sc) w o m r o′ m′
+        Did (codeOf (λ cs. midCode cs site first index (defaultOf 1 d s stop end) sc) (armsFrom d s end at)) w o m r o′ m′ → Did (insideFor there index d s end at stop site first sc) w o m r o′ m′
     inside-mid b e t x =
         let z : defaultOf there d s stop end ≡ defaultOf 1 d s stop end = ap defaultAnswer (some-default there d s stop end (is-there there index n b e t)) in
         recode (inside-is b e ∙ ap insideOf t ∙ ap (λ D. midCode (acc .0) site first index D sc) z ∙ sym (code-is (λ cs. midCode cs site first index (defaultOf 1 d s stop end) sc) (armsFrom d s end at) (acc .0) (acc .1) (acc .2))) x
@@ -311,14 +317,44 @@ module _ (d : ℕ) (s : List ℕ) (end at stop site first index n : ℕ) (sc : B
       the-cases : Did (lowerCases (casesOf (acc .0)) site first none sc) w o m v o₁ m₁
       the-cases = recode (sym (code-is (λ cs. lowerCases (casesOf cs) site first none sc) (armsFrom d s end at) (acc .0) (acc .1) (acc .2))) x
 
-      pub inside-none : there ≡ 0 → Did (insideCode there index d s end at stop site first sc) w o m v o₁ m₁
+      pub inside-none : there ≡ 0 → Did (insideFor there index d s end at stop site first sc) w o m v o₁ m₁
       unfolding lowerStmt
       inside-none z = recode (inside-is b e ∙ ap insideOf t ∙ ap (λ D. lowerCases (casesOf (acc .0)) site first none sc then lowerLast D sc) (none-is z)) (both the-cases nothing)
 
       pub inside-last : {u r : Walk} {o₂ o₃ m₃ : List ℕ} → (there ≡ 0 → ⊥) → Emitted (instr SwitchDefault 0) v o₁ u o₂ → Did (fillCode Statement d s stop (end + 4) sc) u o₂ m₁ r o₃ m₃ →
-          Did (insideCode there index d s end at stop site first sc) w o m r o₃ m₃
+          Did (insideFor there index d s end at stop site first sc) w o m r o₃ m₃
       unfolding lowerStmt
       inside-last z p y =
           let k = default-some there d s stop end z (here z) in
           recode (inside-is b e ∙ ap insideOf t ∙ ap (λ D. lowerCases (casesOf (acc .0)) site first none sc then lowerLast D sc) (some-is z))
           (both the-cases (both (emitted p) (recode (sym (block-code d s stop (end + 4) sc (k .1 .0) stop (k .1 .1))) y)))
+
+-- the places and fields that the code computes
+module _ (d : ℕ) (s : List ℕ) (stop p there index list : ℕ) (e : list ≡ endOf s (p + 5)) (f : there ≡ getD s (p + 4) 0) (g : index ≡ number 4 s p) where
+  pub cased-at : Cased (getD s (p + 4) 0) d s stop p → Accepted (armsFrom d s list (p + 9)) × DefaultHere there d s stop list × (p + 9 ≤ list) × (list ≤ stop)
+  cased-at k = rw (e, f) (k .cases, k .default, k .head, k .tail)
+
+  pub as-inside : (site first : ℕ) (sc : BlockSpan) {w r : Walk} {o m o′ m′ : List ℕ} → Did (insideFor there index d s list (p + 9) stop site first sc) w o m r o′ m′ → Did (insideCode d s stop p site first sc) w o m r o′ m′
+  unfolding insideCode
+  as-inside site first sc x = rw (e, f, g) at x
+
+-- the same of a default before a case
+module _ (d : ℕ) (s : List ℕ) (stop p index list : ℕ) (e : list ≡ endOf s (p + 5)) (g : index ≡ number 4 s p) where
+  abbrev Middle : (index list site first : ℕ) (sc : BlockSpan) (w : Walk) (o m : List ℕ) (r : Walk) (o′ m′ : List ℕ) → Type 0
+  Middle i l site first sc w o m r o′ m′ = Did (codeOf (λ cs. midCode cs site first i (defaultOf 1 d s stop l) sc) (armsFrom d s l (p + 9))) w o m r o′ m′
+
+  pub mid-cased : (n : ℕ) → n ≡ length (listOf (casesFrom d s p)) → Cased 1 d s stop p → Accepted (armsFrom d s list (p + 9)) × DefaultHere 1 d s stop list × (p + 9 ≤ list) × (list ≤ stop) × (n ≡ length (listOf (armsFrom d s list (p + 9))))
+  mid-cased n h k = rw e (k .cases, k .default, k .head, k .tail, h)
+
+  pub mid-there : (site first : ℕ) (sc : BlockSpan) {w r : Walk} {o m o′ m′ : List ℕ} → Middle index list site first sc w o m r o′ m′ → Middle (number 4 s p) (endOf s (p + 5)) site first sc w o m r o′ m′
+  mid-there site first sc x = rw (e, g) at x
+
+  pub mid-here : (site first : ℕ) (sc : BlockSpan) {w r : Walk} {o m o′ m′ : List ℕ} → Middle (number 4 s p) (endOf s (p + 5)) site first sc w o m r o′ m′ → Middle index list site first sc w o m r o′ m′
+  mid-here site first sc x = rw (e, g) x
+
+-- a default that there is, as one of mark 1
+pub cased-one : (there d : ℕ) (s : List ℕ) (stop p : ℕ) → (there ≡ 0 → ⊥) → Cased there d s stop p → Cased 1 d s stop p
+cased-one there d s stop p h k = record { cases = k .cases; default = default-one there d s stop _ (k .default) h; head = k .head; tail = k .tail }
+
+pub counted-at : (d : ℕ) (s : List ℕ) (p list n : ℕ) → list ≡ endOf s (p + 5) → n ≡ length (listOf (armsFrom d s list (p + 9))) → n ≡ length (listOf (casesFrom d s p))
+counted-at d s p list n e h = rw e at h

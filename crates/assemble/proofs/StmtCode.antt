@@ -19,8 +19,10 @@ use Rattle.ir.specs.Places.{endOf, RunAt, DefaultAt, none, some, ReturnAt, noth
 use Rattle.ir.specs.declared.Class.the-variants.{Statement}
 use Rattle.ir.proofs.Inversion.{stmt-at, run-ok, give-ok}
 use Rattle.ir.proofs.StmtPlaces.{eval-at, block-at, while-at, break-at, continue-at, branches-at, switch-at, init-array-at, init-default-at, returned-at, arm-at, no-other}
-use Rattle.steps.specs.Walked.{Accepted, Did, Ended, DefaultHere, insideCode, midCode, defaultAnswer, exprsFrom, listOf, defaultFrom, armsFrom, codeOf, exprCode, stmtCode, fillCode, armCode, Nones}
-use Rattle.assemble.proofs.ExprCode.{Here, here, child, run-at, long-exprs}
+use Rattle.steps.specs.Walked.{Accepted, Did, Ended, DefaultHere, Cased, insideCode, midCode, defaultAnswer, exprsFrom, listOf, defaultFrom, armsFrom, casesFrom, codeOf, exprCode, stmtCode, fillCode, armCode}
+use Rattle.laws.proofs.Arms.{Nones}
+use Rattle.assemble.proofs.ExprCode.{Here, here, child, run-at}
+use Rattle.steps.proofs.HeadLaws.{long-exprs}
 use Rattle.steps.proofs.StepLaws.{recode}
 use Rattle.steps.specs.declared.Walk.{Walk}
 
@@ -160,35 +162,26 @@ module _ (depth : ℕ) (s : List ℕ) (end at : ℕ) (span : BlockSpan) (acc : A
           code = whole ∙ ap (λ t. lowerStmt t span) (k .tree) ∙ rw (r, d);
         })
 
-    -- a switch: what it is on, then at `second` the default's index and mark, and the cases up to `list`
-    pub record SwitchHere (type index there second list : ℕ) : Type 0 where
+    -- a switch: what it is on, then at `second` its default's index and mark, its cases and its default
+    pub record SwitchHere (type second : ℕ) : Type 0 where
       pub one : Here (depth - 1) s stop (at + 9) second
-      pub fits : second + 9 ≤ list
-      pub inner : list ≤ stop
-      pub arms : Accepted (armsFrom (depth - 1) s list (second + 9))
-      pub default : DefaultHere there (depth - 1) s stop list
+      pub cased : Cased (getD s (second + 4) 0) (depth - 1) s stop second
       pub code : stmtCode depth s end at span ≡
           (label at λ finish. label at λ first. emitSwitch type first then exprCode (depth - 1) s stop (at + 9) then
-          insideCode there index (depth - 1) s list (second + 9) stop at first (inSwitch finish span) then act (mark finish))
+          insideCode (depth - 1) s stop second at first (inSwitch finish span) then act (mark finish))
 
-    pub switch-here : (type index there second list : ℕ) → type ≡ number 4 s (at + 5) → index ≡ number 4 s second → there ≡ getD s (second + 4) 0 → second ≡ endOf s (at + 9) → list ≡ endOf s (second + 5) →
-        getD s (at + 4) 0 ≡ 5 → SwitchHere type index there second list
+    pub switch-here : (type second : ℕ) → type ≡ number 4 s (at + 5) → second ≡ endOf s (at + 9) → getD s (at + 4) 0 ≡ 5 → SwitchHere type second
     unfolding lowerStmt codeOf insideCode midCode defaultAnswer
-    switch-here type index there second list f g q e2 e3 kind =
+    switch-here type second f e2 kind =
         let k = switch-at depth s end at (acc .0) stop reads kind in
         let a : k .second ≡ second = k .one .ends ∙ sym e2 in
-        let b : k .list ≡ list = k .run .ends ∙ ap (λ x. endOf s (x + 5)) a ∙ sym e3 in
-        let i : index ≡ number 4 s (k .second) = g ∙ ap (number 4 s) (sym a) in
-        let j : there ≡ getD s (k .second + 4) 0 = q ∙ ap (λ x. getD s (x + 4) 0) (sym a) in
         let nine : k .second + 5 + 4 ≡ k .second + 9 = omega arith in
-        let r : armsFrom (depth - 1) s (k .list) (k .second + 9) ≡ ok (k .cases) (k .list) = rw nine at (k .run .reads) in
-        let d = default-is (depth - 1) s stop (k .list) (getD s (k .second + 4) 0) (k .default) (k .last) in
-        rw (f, i, j, ← a, ← b) (record {
+        let r : casesFrom (depth - 1) s (k .second) ≡ ok (k .cases) (k .list) = ap (λ l. armsFrom (depth - 1) s l (k .second + 9)) (sym (k .run .ends)) ∙ rw nine at (k .run .reads) in
+        let d : defaultFrom (getD s (k .second + 4) 0) (depth - 1) s stop (endOf s (k .second + 5)) ≡ ok (k .default) stop =
+        rw (k .run .ends) at (default-is (depth - 1) s stop (k .list) (getD s (k .second + 4) 0) (k .default) (k .last)) in
+        rw (f, ← a) (record {
           one = here (k .one);
-          fits = omega (arith, k .run .head);
-          inner = k .run .tail;
-          arms = (k .cases, k .list, r);
-          default = λ z. (k .default, d);
+          cased = record { cases = (k .cases, k .list, r); default = λ z. (k .default, d); head = omega (arith, k .run .head, k .run .ends); tail = omega (arith, k .run .tail, k .run .ends) };
           code = whole ∙ ap (λ t. lowerStmt t span) (k .tree) ∙ rw (child (k .one), r, d);
         })
 
@@ -278,9 +271,9 @@ unfolding lowerStmt
 no-default-code there d s end at sc e = no-default there d s end at (λ x. lowerDefault x sc) e
 
 -- the same cases in the same scope by another name
-pub rescope-inside : (there index d : ℕ) (s : List ℕ) (end at stop site first : ℕ) {u u′ : BlockSpan} {w : Walk} {o m : List ℕ} {r : Walk} {o′ m′ : List ℕ} → u′ ≡ u →
-    Did (insideCode there index d s end at stop site first u′) w o m r o′ m′ → Did (insideCode there index d s end at stop site first u) w o m r o′ m′
-rescope-inside there index d s end at stop site first e x = recode (ap (insideCode there index d s end at stop site first) (sym e)) x
+pub rescope-inside : (d : ℕ) (s : List ℕ) (stop p site first : ℕ) {u u′ : BlockSpan} {w : Walk} {o m : List ℕ} {r : Walk} {o′ m′ : List ℕ} → u′ ≡ u →
+    Did (insideCode d s stop p site first u′) w o m r o′ m′ → Did (insideCode d s stop p site first u) w o m r o′ m′
+rescope-inside d s stop p site first e x = recode (ap (insideCode d s stop p site first) (sym e)) x
 
 -- a default that stands among the cases: whatever its mark, it is that of mark 1
 pub some-default : (there d : ℕ) (s : List ℕ) (end at : ℕ) → (there ≡ 0 → ⊥) → defaultFrom there d s end at ≡ defaultFrom 1 d s end at

@@ -9,8 +9,10 @@ ghost use Rattle.definitions.specs.Tree.{exprsOf, branchesOf, casesOf};
 ghost use Rattle.definitions.specs.Read.{parseExpr, parseStmt, filling, arm};
 ghost use Rattle.definitions.specs.Code.{Action, mark, act, _then_};
 ghost use Rattle.definitions.specs.Lower.{jump, jumps, lowerArg, lowerExpr, lowerBlock, lowerBranches, lowerDefault, lowerLast, lowerCases, lowerMatchers, lowerBodies, lowerElements, midDefault};
+ghost use Rattle.definitions.specs.Bytes.{number};
 ghost use Rattle.ir.specs.Class.{nodeOf};
-ghost use Rattle.steps.specs.Walked.{Accepted, DefaultHere, Nones, codeOf, listOf, exprCode, stmtCode, nodeCode, fillCode, exprsFrom, armsFrom, armCode, defaultFrom, defaultOf, midCode, insideCode, marksFrom, Called, argsCode, callCode, spanOf, ending, Did};
+ghost use Rattle.ir.specs.Places.{endOf};
+ghost use Rattle.steps.specs.Walked.{Accepted, DefaultHere, Cased, codeOf, listOf, exprCode, stmtCode, nodeCode, fillCode, exprsFrom, armsFrom, casesFrom, armCode, defaultFrom, defaultOf, midCode, insideCode, marksFrom, Called, argsCode, callCode, spanOf, ending, Did};
 use super::arms::count_arms;
 use instr::numbers::u16_at;
 use instr::numbers::u32_at;
@@ -28,11 +30,12 @@ use steps::calls::check_flags;
 use steps::calls::emit_invoke;
 use steps::calls::nops;
 use steps::calls::weak_to_ref;
+use steps::heads::head;
+use steps::heads::parts_at;
 use steps::labels::labels_of;
 use steps::labels::mark_label;
 use steps::labels::new_label;
 use steps::labels::new_labels;
-use steps::pieces::constant;
 use steps::pieces::element;
 use steps::pieces::init_default;
 use steps::pieces::returned;
@@ -44,7 +47,6 @@ use steps::records::jump;
 use steps::records::jumps;
 use steps::records::plain;
 use steps::refusals::jump_to;
-use steps::refusals::require;
 use steps::spans::in_loop;
 use steps::spans::in_switch;
 use steps::switches::ends_group;
@@ -54,12 +56,6 @@ use steps::switches::is_mid;
 use steps::switches::is_same;
 use steps::switches::mark_if;
 use steps::switches::open_group;
-use steps::tags::element_tag;
-use steps::tags::intrinsic_small;
-use steps::tags::intrinsic_tag;
-use steps::tags::local_tag;
-use steps::tags::null_tag;
-use steps::tags::typed;
 
 // A node that was read, in a holder that ends at `end`.
 fn node(
@@ -141,85 +137,8 @@ fn assemble_expr(
     let stop = end_of(s, at);
     let below = depth - 1;
     match kind {
-        expr::NOP => plain(w, tag::NOP, 0, 0, out),
-        expr::CONST => constant(s, at, w, out),
-        expr::NULL => {
-            let t = null_tag(s[at + 5]);
-            plain(w, t, 0, 0, out)
-        }
-        expr::NEW_INSTANCE => {
-            let class = u32_at(s, at + 5);
-            plain(w, tag::NEW, 0, class, out)
-        }
-        expr::CONSTRUCT => {
-            let first = at + 13;
-            let n = count(s, first, stop, below);
-            let class = u32_at(s, at + 5);
-            let w1 = require(w, n < 256, 12, at, n);
-            let w2 = plain(w1, tag::CONSTRUCT, n, class, out);
-            assemble_run(s, first, stop, below, Expression, span, w2, out, marks)
-        }
-        expr::ASSIGN => {
-            let first = at + 5;
-            let second = end_of(s, first);
-            let w1 = plain(w, tag::ASSIGN, 0, 0, out);
-            let w2 = node(s, first, stop, below, Expression, span, w1, out, marks);
-            node(s, second, stop, below, Expression, span, w2, out, marks)
-        }
         expr::FIELD => field(s, at, end, depth, span, w, out, marks),
-        expr::INDEX => {
-            let first = at + 10;
-            let second = end_of(s, first);
-            let t = element_tag(s[at + 5]);
-            let typ = u32_at(s, at + 6);
-            let w1 = plain(w, t, 0, typ, out);
-            let w2 = node(s, first, stop, below, Expression, span, w1, out, marks);
-            node(s, second, stop, below, Expression, span, w2, out, marks)
-        }
         expr::CONDITIONAL => conditional(s, at, end, depth, span, w, out, marks),
-        _ => late_expr(s, at, end, depth, span, w, out, marks),
-    }
-}
-
-// An expression of a kind from 10 on.
-fn late_expr(
-    s: &[u8],
-    at: usize,
-    end: usize,
-    depth: usize,
-    span: BlockSpan,
-    w: Walk,
-    out: &mut [u8],
-    marks: &mut [u32],
-) -> Walk
-    requires { ⌜ Accepted (parseExpr depth (now s) end at) ⌝ }
-    requires { ⌜ end ≤ length (now s) ⌝ }
-    requires { ⌜ Nones 0 9 (getD (now s) (at + 4) 0) ⌝ }
-    ensures { λ r. ⌜ Did (exprCode depth (now (s .entry)) end at) w (now (out .entry)) (now (marks .entry)) r (now (out .exit)) (now (marks .exit)) ⌝ }
-{
-    let kind = s[at + 4];
-    let stop = end_of(s, at);
-    let below = depth - 1;
-    match kind {
-        expr::DYN_CAST => {
-            let class = u32_at(s, at + 5);
-            let weak = wide(s[at + 9]);
-            let w1 = plain(w, tag::DYNAMIC_CAST, weak, class, out);
-            node(s, at + 10, stop, below, Expression, span, w1, out, marks)
-        }
-        expr::LOCAL => {
-            let t = local_tag(s[at + 5]);
-            let index = u32_at(s, at + 6);
-            plain(w, t, 0, index, out)
-        }
-        expr::INTRINSIC_CALL => {
-            let code = wide(s[at + 5]);
-            let fits = typed(code, wide(s[at + 6]), wide(s[at + 7]));
-            let index = u32_at(s, at + 8);
-            let w1 = require(w, fits, 14, at, 0);
-            let w2 = plain(w1, intrinsic_tag(code), intrinsic_small(code), index, out);
-            assemble_run(s, at + 16, stop, below, Expression, span, w2, out, marks)
-        }
         expr::FREE_CALL => emit_call(s, at + 5, stop, below, span, at, w, out, marks),
         expr::STATIC_CALL => {
             let exit = labels_of(w);
@@ -229,7 +148,11 @@ fn late_expr(
         }
         expr::INSTANCE_CALL => instance(s, at, end, depth, span, w, out, marks),
         expr::CLOSURE_CALL => closure(s, at, end, depth, span, w, out, marks),
-        _ => w,
+        _ => {
+            let first = parts_at(s, at, stop);
+            let w1 = head(s, at, end, depth, w, out);
+            assemble_run(s, first, stop, below, Expression, span, w1, out, marks)
+        }
     }
 }
 
@@ -360,17 +283,8 @@ fn closure(
     let exit = labels_of(w4);
     let w5 = new_label(w4, at, marks);
     let w6 = invoke(w5, tag::INVOKE_VIRTUAL, exit, line, 0, name, out);
-    let w7 = assemble_run(
-        s,
-        second + 10,
-        stop,
-        below,
-        Expression,
-        span,
-        w6,
-        out,
-        marks,
-    );
+    let args = second + 10;
+    let w7 = assemble_run(s, args, stop, below, Expression, span, w6, out, marks);
     let w8 = plain(w7, tag::PARAM_END, 0, 0, out);
     mark_label(w8, exit, marks)
 }
@@ -647,7 +561,6 @@ fn switch(
     let below = depth - 1;
     let first = at + 9;
     let second = end_of(s, first);
-    let list = end_of(s, second + 5);
     let typ = u32_at(s, at + 5);
     let finish = labels_of(w);
     let w1 = new_label(w, at, marks);
@@ -656,29 +569,11 @@ fn switch(
     let w3 = emit_switch(w2, typ, label, out);
     let w4 = node(s, first, stop, below, Expression, span, w3, out, marks);
     let inner = in_switch(finish, span);
-    let index = u32_at(s, second);
-    let there = wide(s[second + 4]);
-    let n = count_arms(s, second + 9, list, below);
-    let w5 = inside(
-        s,
-        second + 9,
-        list,
-        below,
-        inner,
-        at,
-        label,
-        stop,
-        there,
-        index,
-        n,
-        w4,
-        out,
-        marks,
-    );
+    let w5 = inside(s, second, stop, below, inner, at, label, w4, out, marks);
     mark_label(w5, finish, marks)
 }
 
-// The cases of a switch and its default.
+// What stands in a switch after its value, from `at` on: default_index, the default's mark, the cases, the default.
 fn inside(
     s: &[u8],
     at: usize,
@@ -687,42 +582,27 @@ fn inside(
     span: BlockSpan,
     site: usize,
     first: usize,
-    stop: usize,
-    there: usize,
-    index: usize,
-    n: usize,
     w: Walk,
     out: &mut [u8],
     marks: &mut [u32],
 ) -> Walk
-    requires { ⌜ Accepted (armsFrom depth (now s) end at) ⌝ }
-    requires { ⌜ DefaultHere there depth (now s) stop end ⌝ }
-    requires { ⌜ (at ≤ end) × (end ≤ stop) × (stop ≤ length (now s)) × (n ≡ length (listOf (armsFrom depth (now s) end at))) ⌝ }
-    ensures { λ r. ⌜ Did (insideCode there index depth (now (s .entry)) end at stop site first (spanOf span)) w (now (out .entry)) (now (marks .entry)) r (now (out .exit)) (now (marks .exit)) ⌝ }
+    requires { ⌜ Cased (getD (now s) (at + 4) 0) depth (now s) end at ⌝ }
+    requires { ⌜ end ≤ length (now s) ⌝ }
+    ensures { λ r. ⌜ Did (insideCode depth (now (s .entry)) end at site first (spanOf span)) w (now (out .entry)) (now (marks .entry)) r (now (out .exit)) (now (marks .exit)) ⌝ }
 {
+    let list = end_of(s, at + 5);
+    let index = u32_at(s, at);
+    let there = wide(s[at + 4]);
+    let n = count_arms(s, at + 9, list, depth);
     if is_mid(there, index, n) {
-        return mid_default(
-            s,
-            at,
-            end,
-            depth,
-            span,
-            site,
-            first,
-            stop,
-            index,
-            n,
-            w,
-            out,
-            marks,
-        );
+        return mid_default(s, at, end, depth, span, site, first, n, w, out, marks);
     }
-    let w1 = cases(s, at, end, depth, span, site, first, w, out, marks);
+    let w1 = cases(s, at + 9, list, depth, span, site, first, w, out, marks);
     if there == 0 {
         return w1;
     }
     let w2 = plain(w1, tag::SWITCH_DEFAULT, 0, 0, out);
-    assemble_run(s, end + 4, stop, depth, Statement, span, w2, out, marks)
+    assemble_run(s, list + 4, end, depth, Statement, span, w2, out, marks)
 }
 
 // Cases in groups: each block after its matcher.
@@ -791,7 +671,7 @@ fn case(
     w2
 }
 
-// A switch whose default stands before case `index`: all matchers, then all blocks.
+// The same where the default stands before one of the n cases: all matchers, then all blocks.
 fn mid_default(
     s: &[u8],
     at: usize,
@@ -800,33 +680,33 @@ fn mid_default(
     span: BlockSpan,
     site: usize,
     first: usize,
-    stop: usize,
-    index: usize,
     n: usize,
     w: Walk,
     out: &mut [u8],
     marks: &mut [u32],
 ) -> Walk
-    requires { ⌜ Accepted (armsFrom depth (now s) end at) ⌝ }
-    requires { ⌜ DefaultHere 1 depth (now s) stop end ⌝ }
-    requires { ⌜ (at ≤ end) × (end ≤ stop) × (stop ≤ length (now s)) × (n ≡ length (listOf (armsFrom depth (now s) end at))) ⌝ }
-    ensures { λ r. ⌜ Did (codeOf (λ cs. midCode cs site first index (defaultOf 1 depth (now (s .entry)) stop end) (spanOf span)) (armsFrom depth (now (s .entry)) end at)) w (now (out .entry)) (now (marks .entry)) r (now (out .exit)) (now (marks .exit)) ⌝ }
+    requires { ⌜ Cased 1 depth (now s) end at ⌝ }
+    requires { ⌜ (end ≤ length (now s)) × (n ≡ length (listOf (casesFrom depth (now s) at))) ⌝ }
+    ensures { λ r. ⌜ Did (codeOf (λ cs. midCode cs site first (number 4 (now (s .entry)) at) (defaultOf 1 depth (now (s .entry)) end (endOf (now (s .entry)) (at + 5))) (spanOf span)) (casesFrom depth (now (s .entry)) at)) w (now (out .entry)) (now (marks .entry)) r (now (out .exit)) (now (marks .exit)) ⌝ }
 {
+    let list = end_of(s, at + 5);
+    let index = u32_at(s, at);
+    let one = at + 9;
     let body = labels_of(w);
     let w1 = new_labels(w, site, n + 1, marks);
-    let w2 = matchers(s, at, end, depth, span, site, first, body, w1, out, marks);
+    let w2 = matchers(s, one, list, depth, span, site, first, body, w1, out, marks);
     let w3 = plain(w2, tag::SWITCH_DEFAULT, 0, 0, out);
     let w4 = jump(w3, tag::JUMP, body + n, out);
     bodies(
         s,
-        at,
-        end,
+        one,
+        list,
         depth,
         span,
         index,
         body,
         n,
-        stop,
+        end,
         w4,
         out,
         marks,

@@ -1,48 +1,23 @@
--- Tables: what a match over the tags leaves to its last arm, and an entry that is read at a tag.
+-- Tables: an entry that is read at a tag.
 use mathlib.Core.Path.{_≡_, refl, _∙_, ap, sym}
 use mathlib.Core.Bool.{Bool, true, false, cond, _||_}
 use mathlib.Mathlib.Data.Bool.Basic.{or-eq-false-eq-eq-false-and-eq-false as or-is-false}
 use mathlib.Core.List.{List, [], _∷_, map}
 use Prim.Native.Nat.{ℕ, zero, suc, _≤_, _<_}
 use native.Mathlib.Omega.{arith}
-use lib.Dec.{ltb, eqb, ltb→lt}
+use lib.Dec.{ltb, ltb→lt}
 use lib.ListN.{length, getD, List·getD-map}
-use borrow.Author.Tests.{ltb-false, eqb-true, eqb-false}
+use borrow.Author.Tests.{ltb-false}
 use Rattle.definitions.specs.Tag as definitions
 use Rattle.definitions.specs.Tag.{tagSize, emitted, rowOf}
 use Rattle.laws.proofs.Sizes.{size-limit}
+use Rattle.laws.proofs.Arms.{None, those, others}
 use Rattle.laws.proofs.Tables.{every, at}
 use Rattle.instr.specs.declared.tables.DefaultTag.the-variants.{Is, NoValue}
 use Rattle.instr.specs.declared.tables.Row.{Row}
 use Rattle.instr.specs.Values.{rowIs, kth}
 
--- 1. The last arm
-
--- a number that is none of these, as the last arm of a match knows it
-abbrev pub None : (t : ℕ) → List ℕ → Type 0
-None t [] = Unit {0}
-None t (k ∷ ks) = None t ks × (t ≡ k → ⊥)
-
--- the numbers below n that pass a test, the largest first
-unfoldable pub those : (f : ℕ → Bool) (n : ℕ) → List ℕ
-those f zero = []
-those f (suc n) = cond (f n) (n ∷ those f n) (those f n)
-
-last : (f : ℕ → Bool) (n t : ℕ) (b : Bool) → eqb t n ≡ b → t < suc n → f n ≡ false → (t < n → f t ≡ false) → f t ≡ false
-last f n t true e h q g = ap f (eqb-true t n e) ∙ q
-last f n t false e h q g = let d = eqb-false t n e in g (omega arith)
-
-below : (f : ℕ → Bool) (n t : ℕ) (b : Bool) → f n ≡ b → t < suc n → None t (cond b (n ∷ those f n) (those f n)) → (t < n → None t (those f n) → f t ≡ false) → f t ≡ false
-below f n t true e h r g = let d = r .1 in g (omega arith) (r .0)
-below f n t false e h r g = last f n t (eqb t n) refl h e (λ l. g l r)
-
--- a number that is none of them does not pass
-pub others : (f : ℕ → Bool) (n t : ℕ) → t < n → None t (those f n) → f t ≡ false
-unfolding those
-others f zero t h r = absurd (omega arith)
-others f (suc n) t h r = below f n t (f n) refl h r (λ l q. others f n t l q)
-
--- 2. Sizes
+-- 1. Sizes
 
 -- an arm of the tag k
 pub size-at : {t k v : ℕ} → t ≡ k → v ≡ tagSize k → (v ≡ tagSize t) × (v ≤ 17)
@@ -52,7 +27,7 @@ pub size-other : (t : ℕ) → t < 256 → None t (those emitted 256) → (0 ≡
 unfolding emitted
 size-other t h r = (omega (arith, ltb-false 0 (tagSize t) (others emitted 256 t h r)), omega arith)
 
--- 3. Rows
+-- 2. Rows
 
 abbrev pub none : Row
 none = record { small = false; first = false; second = false; line = false; flags = false; value = false }
@@ -111,7 +86,7 @@ pub few : (t : ℕ) → getD theNumbers t 0 < 7
 unfolding theNumbers definitions.rows every
 few t = ltb→lt (getD theNumbers t 0) 7 (at (λ x. ltb x 7) theNumbers 0 tt tt t)
 
--- 4. Tags of default bytes
+-- 3. Tags of default bytes
 
 pub kth-in : (ts : List ℕ) (k : ℕ) → k < length ts → Is (getD ts k 0) ≡ kth ts k
 unfolding kth
@@ -124,9 +99,3 @@ unfolding kth
 kth-past [] k h = refl
 kth-past (t ∷ ts) zero h = absurd (omega arith)
 kth-past (t ∷ ts) (suc k) h = kth-past ts k (omega arith)
-
--- a number that none of the first n is
-pub past : (n k : ℕ) → None k (those (λ _. true) n) → n ≤ k
-unfolding those
-past zero k r = omega arith
-past (suc n) k r = let d = r .1 in let h = past n k (r .0) in omega arith

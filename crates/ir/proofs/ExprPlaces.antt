@@ -9,7 +9,7 @@ use Rattle.definitions.specs.Bytes.{number}
 use Rattle.definitions.specs.Tree.{Expr, nop, index, intrinsic, freeCall, staticCall, instanceCall, closureCall, exprsOf}
 use Rattle.definitions.specs.Read.{Parser, unknownKind, pick, asNop, asConst, asNull, asNewInstance, asConstruct, asAssign, asField, asIndex, asConditional, asDynCast, asLocal, asIntrinsic, asFreeCall, asStaticCall, asInstanceCall, asClosureCall, exprKinds, exprBody, parseExpr}
 use Rattle.ir.specs.Places.{endOf, NopAt, ConstAt, NullAt, NewInstanceAt, ConstructAt, AssignAt, FieldAt, IndexAt, ConditionalAt, DynCastAt, LocalAt, IntrinsicAt, FreeCallAt, StaticCallAt, InstanceCallAt, ClosureCallAt}
-use Rattle.ir.proofs.Laws.{Nones, past}
+use Rattle.laws.proofs.Arms.{Nones, past}
 use Rattle.ir.proofs.Inversion.{refused-not-ok, expr-ok, child-ok, unsigned-ok, byte-below-ok, payload-ok, run-ok, give-ok, call-ok, one-byte}
 
 -- there are no more kinds than the list has

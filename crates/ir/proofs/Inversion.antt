@@ -252,6 +252,19 @@ module _ {A : Type 0} (p : ℕ → Parser A) (stop : ℕ) (moves : (at : ℕ) (x
   unfolding filling
   fill-none at l e = let h : ok [] stop ≡ ok _ _ = sym (items-end (p stop) (stop - at) stop at l) ∙ e in (cc, cc)
 
+  -- the other way: no item, and an item before others
+  pub fill-nil : (at : ℕ) → stop ≤ at → filling p stop at ≡ ok [] stop
+  unfolding filling
+  fill-nil at l = items-end (p stop) (stop - at) stop at l
+
+  pub fill-cons : (at : ℕ) {x : A} {k : ℕ} {ys : List A} {n : ℕ} → at < stop → p stop at ≡ ok x k → filling p stop k ≡ ok ys n → filling p stop at ≡ ok (x ∷ ys) n
+  unfolding filling bind
+  fill-cons at {x} {k} {ys} {n} l e r =
+      let f : suc (stop - at - 1) ≡ stop - at = omega arith in
+      let q : items (p stop) (suc (stop - at - 1)) stop k ≡ ok ys n = fuel-same (stop - at - 1) (stop - k) k (omega (arith, moves at x k e)) (omega arith) ∙ r in
+      let z : items (p stop) (stop - at) stop k ≡ ok ys n = rw f at q in
+      items-on (p stop) (stop - at) stop at l ∙ ap (λ (y : Answer A). bind y (itemsOf (p stop) (stop - at) stop)) e ∙ ap (λ (y : Answer (List A)). bind y (λ ys. ok (x ∷ ys))) z
+
 pub expr-moves : (d : ℕ) (s : List ℕ) (stop at : ℕ) (x : Expr) (n : ℕ) → parseExpr d s stop at ≡ ok x n → at < n
 expr-moves d s stop at x n e = let i = expr-at d s stop at e in omega (arith, i .head)
 

@@ -8,6 +8,7 @@ use lib.ListN.{length}
 use Rattle.definitions.specs.Answer.{Answer, ok, refused, bind}
 use Rattle.definitions.specs.Read.{Parser, _>>=_, give, unknownKind, pick}
 pub use Rattle.laws.proofs.Inversion.{impossible}
+use Rattle.laws.proofs.Arms.{Nones, past}
 use Rattle.ir.specs.Verdict.{verdict, after, counted, countedAfter, numberAfter, headed, cursorOf, valueOf}
 use Rattle.ir.specs.declared.Refusal.{Refusal}
 use Rattle.ir.specs.declared.Read.{Read}
@@ -178,15 +179,6 @@ unfolding pick
 past-all A [] at k h = refl
 past-all A (p ∷ ps) at zero h = impossible (omega arith)
 past-all A (p ∷ ps) at (suc k) h = past-all A ps at k (omega arith)
-
--- none of the n numbers after b, as a match on a number has it after its arms for them
-abbrev pub Nones : ℕ → ℕ → ℕ → Type 0
-Nones b zero kind = Unit {0}
-Nones b (suc n) kind = Nones b n kind × (kind ≡ b + suc n → ⊥)
-
-pub past : (b n kind : ℕ) → Nones b n kind → b < kind → b + n < kind
-past b zero kind h l = omega arith
-past b (suc n) kind h l = let i : b + n < kind = past b n kind (h .0) l in let z : kind ≡ b + suc n → ⊥ = h .1 in omega arith
 
 -- a kind that the list lacks: 0, and those past its end
 pub unpicked-0 : (A : Type 0) (ps : List (Parser A)) (at kind : ℕ) (r₀ r : Read) → kind ≡ 0

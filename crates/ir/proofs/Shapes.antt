@@ -8,7 +8,8 @@ use Rattle.definitions.specs.Read.{Parser, unknownKind, pick, unsigned, byteBel
 use Rattle.ir.specs.Verdict.{after, numberAfter, cursorOf, valueOf, calling}
 use Rattle.ir.specs.declared.Read.{Read}
 use Rattle.ir.specs.declared.Number.{Number}
-use Rattle.ir.proofs.Laws.{gave, last, last-two, over, over-value, Nones, past, unpicked, unpicked-0, unpicked-past}
+use Rattle.laws.proofs.Arms.{Nones, past}
+use Rattle.ir.proofs.Laws.{gave, last, last-two, over, over-value, unpicked, unpicked-0, unpicked-past}
 
 module _ (s : List ℕ) (child : ℕ → Parser Expr) (kind at end : ℕ) (r₀ r : Read) where
   pub expr-1 : kind ≡ 1 → r ≡ r₀ → r ≡ after r₀ (exprBody s child kind at end)

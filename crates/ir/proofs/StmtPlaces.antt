@@ -9,7 +9,7 @@ use Rattle.definitions.specs.Bytes.{number}
 use Rattle.definitions.specs.Tree.{Expr, Stmt, Block, Default, expr, block, while, branches, switch, initArray, break, continue, return, returnNothing, absent, present, blockOf, exprsOf, branchesOf, casesOf}
 use Rattle.definitions.specs.Read.{_>>=_, give, unknownKind, pick, byteBelow, run, arm, blockIf, returnIf, asExpr, asBlock, asWhile, asBranches, asSwitch, asInitArray, asInitDefault, asBreak, asContinue, asReturn, stmtKinds, stmtBody, parseExpr, parseStmt}
 use Rattle.ir.specs.Places.{endOf, RunAt, ByteAt, EvalAt, BlockAt, WhileAt, ArmAt, DefaultAt, none, some, BranchesAt, SwitchAt, InitArrayAt, InitDefaultAt, BreakAt, ContinueAt, ReturnAt, nothing, value}
-use Rattle.ir.proofs.Laws.{Nones, past}
+use Rattle.laws.proofs.Arms.{Nones, past}
 use Rattle.ir.proofs.Inversion.{refused-not-ok, bind-ok, stmt-ok, child-ok, unsigned-ok, byte-below-ok, run-ok, give-ok}
 use Rattle.ir.proofs.ExprPlaces.{no-kind-past}
 

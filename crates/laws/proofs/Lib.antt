@@ -1,4 +1,5 @@
 -- Laws of the definitions and of tables that several crates cite.
+pub mod Arms
 pub mod Inversion
 pub mod Results
 pub mod Tables

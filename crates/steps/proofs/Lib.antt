@@ -2,3 +2,4 @@ pub mod StepLaws
 pub mod RunLaws
 mod LeafLaws
 mod FlagLaws
+pub mod HeadLaws

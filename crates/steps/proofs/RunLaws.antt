@@ -20,8 +20,8 @@ use Rattle.ir.proofs.Inversion.{fill-some, fill-none, expr-at, stmt-at, expr-mo
 use Rattle.steps.specs.Running.{run}
 use Rattle.steps.specs.Walked.{Accepted, codeOf, ran, labelsOf, lowerOf, lowerAll, nodeCode, stmtCode, exprCode, exprsFrom, argsCode, listOf, marksFrom, Called, Emitted, Nops, Did}
 use Rattle.steps.specs.declared.Walk.{Walk}
-use Rattle.laws.proofs.Results.{onward-assoc, onward-made}
-use Rattle.steps.proofs.StepLaws.{fresh-same, recode}
+use Rattle.laws.proofs.Results.{onward-assoc, onward-made, onward-same}
+use Rattle.steps.proofs.StepLaws.{fresh-same, recode, SameRun}
 
 -- 1. What is left
 
@@ -49,6 +49,10 @@ fresh-step at k l {w = w} {o = o} {m = m} e d = record { same = ap (λ x. onward
 -- the same code by another name
 pub renamed : {p p′ : Code} (w : Walk) (o m : List ℕ) → p ≡ p′ → Goes p w o m p′ w o m
 renamed w o m e = record { same = ap (λ c. onward (ran w o m) (run c)) (sym e); outs = refl; marked = refl }
+
+-- a code that runs alike
+pub goes-same : {p q : Code} (w : Walk) (o m : List ℕ) → SameRun p q → Goes p w o m q w o m
+goes-same {p} {q} w o m h = record { same = onward-same (ran w o m) (run q) (run p) (λ c _. sym (h .alike c)); outs = refl; marked = refl }
 
 -- nothing is left
 pub goes-end : {p : Code} {w v : Walk} {o m o′ m′ : List ℕ} → Goes p w o m done v o′ m′ → Did p w o m v o′ m′

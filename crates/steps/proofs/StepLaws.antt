@@ -20,7 +20,7 @@ use Rattle.instr.specs.Values.{written, rowIs}
 use Rattle.instr.specs.declared.tables.Row.{Row}
 use Rattle.definitions.specs.Answer.{Result, made, refusal, onward, checked}
 use Rattle.laws.proofs.Sizes.{size-is}
-use Rattle.laws.proofs.Results.{onward-assoc, onward-made}
+use Rattle.laws.proofs.Results.{onward-assoc, onward-made, onward-same}
 use Rattle.steps.specs.Running.{Cells, put, setMade, word, move, run}
 use Rattle.ir.specs.declared.Class.{Class}
 use Rattle.steps.specs.Walked.{codeOf, fillCode, groupLabel, openCode, ran, labelsOf, targetOf, Did, Emitted, Labelled, Left}
@@ -316,3 +316,36 @@ element-dynamic (suc n) h = refl
 
 pub none-emitted : {w : Walk} {o : List ℕ} → Emitted done w o w o
 none-emitted = record { did = λ m. nothing }
+
+-- 3. Codes that run alike
+
+pub record SameRun (p q : Code) : Type 0 where
+  pub alike : (c : Cells) → run p c ≡ run q c
+
+pub same-assoc : (p q r : Code) → SameRun (p then (q then r)) ((p then q) then r)
+unfolding run
+same-assoc p q r = record { alike = λ c. sym (onward-assoc (run p c) (run q) (run r)) }
+
+pub same-right : (p : Code) {q q′ : Code} → SameRun q q′ → SameRun (p then q) (p then q′)
+unfolding run
+same-right p {q} {q′} h = record { alike = λ c. onward-same (run p c) (run q) (run q′) (λ a _. h .alike a) }
+
+pub same-on : {p q r : Code} → SameRun p q → SameRun q r → SameRun p r
+same-on a b = record { alike = λ c. a .alike c ∙ b .alike c }
+
+pub same-back : {p q : Code} → SameRun p q → SameRun q p
+same-back a = record { alike = λ c. sym (a .alike c) }
+
+pub same-code : {p q : Code} → p ≡ q → SameRun p q
+same-code e = record { alike = λ c. ap (λ x. run x c) e }
+
+pub same-done : (p : Code) → SameRun p (done then p)
+unfolding run onward
+same-done p = record { alike = λ c. refl }
+
+pub same-end : (p : Code) → SameRun (p then done) p
+unfolding run
+same-end p = record { alike = λ c. onward-made (run p c) }
+
+pub rerun : {p q : Code} {w : Walk} {o m : List ℕ} {r : Walk} {o′ m′ : List ℕ} → SameRun p q → Did p w o m r o′ m′ → Did q w o m r o′ m′
+rerun {p} {q} {w = w} {o = o} {m = m} h d = record { same = d .same ∙ onward-same (ran w o m) (run p) (run q) (λ c _. h .alike c); outs = d .outs; marked = d .marked }

@@ -1,10 +1,10 @@
 -- What the contracts of the walk cite: the code of what the bytes hold, and what a walk's value and the two buffers say together.
 use Prim.Native.Nat.{ℕ, zero, suc, _+_, _≤_, _%_, _^_}
-use mathlib.Core.Bool.{Bool, cond}
+use mathlib.Core.Bool.{Bool, cond, _&&_}
 use mathlib.Core.List.{List, [], _∷_}
 use mathlib.Core.Option.{Option, none, some}
 use mathlib.Core.Path.{_≡_}
-use lib.Dec.{eqb}
+use lib.Dec.{eqb, ltb}
 use lib.ListN.{length, getD}
 use Rattle.definitions.specs.Answer.{Answer, ok, refused, Result, made, refusal, onward}
 use Rattle.definitions.specs.Bytes.{number}
@@ -12,10 +12,11 @@ use Rattle.definitions.specs.Tree.{Callee, Expr, Stmt, Block, Default, absent, 
 use Rattle.definitions.specs.Read.{parseExpr, parseStmt, arm, filling, blockIf}
 use Rattle.definitions.specs.Read as read
 use Rattle.definitions.specs.Instr.{Instr, plain}
-use Rattle.definitions.specs.Code.{Code, new, mark, act, emits, _then_, done, label, many, State}
-use Rattle.definitions.specs.Tag.{SwitchDefault, Jump, Assign, ArrayElement, Local, U64Const, constTag, constWidths}
-use Rattle.definitions.specs.Lower.{BlockSpan, lowerExpr, lowerExprs, lowerArgs, lowerElements, lowerStmt, lowerBlock, lowerBranches, lowerDefault, lowerLast, lowerCases, lowerMatchers, lowerBodies, lowerBlocks, emitCall, requireFlags, flagsOf, inGroup, midDefault, instr, jump, nops}
+use Rattle.definitions.specs.Code.{Code, new, mark, emit, act, emits, _then_, done, label, many, State}
+use Rattle.definitions.specs.Tag.{Nop, New, Construct, DynamicCast, SwitchDefault, Jump, Assign, ArrayElement, Local, U64Const, constTag, constWidths, intrinsicOf}
+use Rattle.definitions.specs.Lower.{BlockSpan, lowerExpr, lowerExprs, lowerArgs, lowerElements, lowerStmt, lowerBlock, lowerBranches, lowerDefault, lowerLast, lowerCases, lowerMatchers, lowerBodies, lowerBlocks, emitCall, requireFlags, flagsOf, inGroup, midDefault, require, instr, jump, nops, nullTag, elementTag, localTag}
 use Rattle.ir.specs.Class.{TreeOf, nodeOf}
+use Rattle.ir.specs.Places.{endOf}
 use Rattle.ir.specs.declared.Class.{Class}
 use Rattle.ir.specs.declared.Class.the-variants.{Statement, Expression}
 use Rattle.steps.specs.Running.{Cells, run}
@@ -160,11 +161,6 @@ pub record Left (code : Code) (w r : Walk) : Type 0 where
 
 -- 5. Switches
 
--- none of the numbers from b + 1 to b + n
-abbrev pub Nones : (b n k : ℕ) → Type 0
-Nones b zero k = Unit {0}
-Nones b (suc n) k = Nones b n k × (k ≡ b + suc n → ⊥)
-
 -- a case's block, where it ends its group
 unfoldable pub ending : (ends : Bool) (body : ℕ) → Code → Code
 ending ends body blockOf = cond ends (act (mark body) then blockOf) done
@@ -183,6 +179,24 @@ midCode cs at first index d span =
     label at λ body. many at (lengthCases (casesOf cs))
     (lowerMatchers (casesOf cs) at first body then instr SwitchDefault 0 then jump Jump (body + lengthCases (casesOf cs)) then
     lowerBodies (casesOf cs) index body (body + lengthCases (casesOf cs)) (lowerDefault d span) span)
+
+-- the cases of a switch, where what follows its value stands at p
+abbrev pub casesFrom : (depth : ℕ) (s : List ℕ) (p : ℕ) → Answer (List (Expr × Block))
+casesFrom d s p = armsFrom d s (endOf s (p + 5)) (p + 9)
+
+-- they are read, and the default where there is one, which ends the node
+pub record Cased (there d : ℕ) (s : List ℕ) (stop p : ℕ) : Type 0 where
+  pub cases : Accepted (casesFrom d s p)
+  pub default : DefaultHere there d s stop (endOf s (p + 5))
+  pub head : p + 9 ≤ endOf s (p + 5)
+  pub tail : endOf s (p + 5) ≤ stop
+
+-- the cases and the default
+unfoldable pub insideCode : (depth : ℕ) (s : List ℕ) (stop p site first : ℕ) → BlockSpan → Code
+insideCode d s stop p site first span =
+    let default = defaultOf (getD s (p + 4) 0) d s stop (endOf s (p + 5)) in
+    codeOf (λ cs. cond (midDefault default (number 4 s p) (casesOf cs)) (midCode cs site first (number 4 s p) default span)
+    (lowerCases (casesOf cs) site first none span then lowerLast default span)) (casesFrom d s p)
 
 -- the body label of the group that is open, or the next
 unfoldable pub groupLabel : Target → Walk → ℕ
@@ -216,8 +230,46 @@ markIf (suc h) l = act (mark l)
 unfoldable pub sameAs : (k index : ℕ) → ℕ
 sameAs k index = cond (eqb k index) 1 0
 
--- the cases of a switch up to `end`, and its default, which ends at `stop`
-unfoldable pub insideCode : (there index depth : ℕ) (s : List ℕ) (end at stop site first : ℕ) → BlockSpan → Code
-insideCode there index d s end at stop site first span =
-    codeOf (λ cs. cond (midDefault (defaultOf there d s stop end) index (casesOf cs)) (midCode cs site first index (defaultOf there d s stop end) span)
-    (lowerCases (casesOf cs) site first none span then lowerLast (defaultOf there d s stop end) span)) (armsFrom d s end at)
+-- 7. Expressions that are one record and then their parts in order, by their kind
+
+-- the record, after its check where it has one
+unfoldable pub constructCode : (d : ℕ) (s : List ℕ) (stop at : ℕ) → Code
+constructCode d s stop at =
+    let n = length (listOf (exprsFrom d s stop (at + 13))) in
+    require (ltb n 256) 12 at n then act (emit (plain Construct n (number 4 s (at + 5))))
+
+unfoldable pub intrinsicCode : (s : List ℕ) (at : ℕ) → Code
+intrinsicCode s at =
+    let i = intrinsicOf (getD s (at + 5) 0) in
+    require (eqb (getD s (at + 6) 0) 0 && eqb (getD s (at + 7) 0) (i .types)) 14 at 0 then act (emit (plain (i .tag) (i .small) (number 4 s (at + 8))))
+
+unfoldable pub heads : (d : ℕ) (s : List ℕ) (stop at : ℕ) → List Code
+heads d s stop at =
+    done
+    ∷ instr Nop 0
+    ∷ constCode s at
+    ∷ instr (nullTag (getD s (at + 5) 0)) 0
+    ∷ instr New (number 4 s (at + 5))
+    ∷ constructCode d s stop at
+    ∷ instr Assign 0
+    ∷ done
+    ∷ instr (elementTag (getD s (at + 5) 0)) (number 4 s (at + 6))
+    ∷ done
+    ∷ act (emit (plain DynamicCast (getD s (at + 9) 0) (number 4 s (at + 5))))
+    ∷ instr (localTag (getD s (at + 5) 0)) (number 4 s (at + 6))
+    ∷ intrinsicCode s at
+    ∷ []
+
+unfoldable pub headOf : (d : ℕ) (s : List ℕ) (stop at kind : ℕ) → Code
+headOf d s stop at kind = getD (heads d s stop at) kind done
+
+abbrev pub headCode : (d : ℕ) (s : List ℕ) (stop at : ℕ) → Code
+headCode d s stop at = headOf d s stop at (getD s (at + 4) 0)
+
+-- how far into a node its parts begin; 0 where it has none
+unfoldable pub partsFrom : (kind : ℕ) → ℕ
+partsFrom kind = getD (0 ∷ 0 ∷ 0 ∷ 0 ∷ 0 ∷ 13 ∷ 5 ∷ 0 ∷ 10 ∷ 0 ∷ 10 ∷ 0 ∷ 16 ∷ []) kind 0
+
+-- where they begin; at the node's end where there are none
+unfoldable pub partsAt : (s : List ℕ) (stop at : ℕ) → ℕ
+partsAt s stop at = let n = partsFrom (getD s (at + 4) 0) in cond (eqb n 0) stop (at + n)

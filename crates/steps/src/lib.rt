@@ -1,5 +1,6 @@
 // The steps of the lowering walk, none of which holds a node. Each changes what it is lent, and nothing else.
 pub mod calls;
+pub mod heads;
 pub mod labels;
 pub mod pieces;
 pub mod places;

@@ -9,27 +9,21 @@ use Rattle.assemble.proofs.real_walk.Lts as lts
 use Rattle.assemble.proofs.nodes.assemble_run.Reads as assemble-run-reads
 use Rattle.instr.proofs.numbers.wide.Reads as wide-reads
 
--- src/lib.rt:74:24
 shared-slice-read-wide : tie.Need-shared-slice-read-wide
 shared-slice-read-wide c = let u = unit-here _ (c .before .before .before .before .pre) in omega (arith, u .head)
 
--- src/lib.rt:74:9
 wide-requires : tie.Need-wide-requires
 wide-requires c κs = search needs
 
--- src/lib.rt:81:5
 assemble-run-requires : tie.Need-assemble-run-requires
 assemble-run-requires c κs = let u = unit-here _ (c .before .before .before .before .before .before .before .pre) in (u .reads, (u .head, omega arith))
 
--- src/lib.rt:65:1
 returns : tie.Need-returns
 returns c = real-did _ _ _ _ _ _ _ (c .before .before .before .before .before .before .before .before .before .before .before .before .pre) (c .before .before .before .before .before .before .before .wide .ensures .0) (c .before .before .before .before .assemble-run .ensures)
 
--- src/lib.rt:65:1
 same-length : tie.Need-same-length
 same-length c = search needs
 
--- src/lib.rt:65:1
 same-length-2 : tie.Need-same-length-2
 same-length-2 c = search needs
 

@@ -15,31 +15,24 @@ Inv-loop s at end depth i₀ n₀ i n = ArmsCount depth s end at i n
 abbrev μ-loop : tie.MeasureT-loop
 μ-loop s at end depth i₀ n₀ i n = end - i
 
--- src/steps.rt:435:5
 loop-holds : tie.Need-loop-holds Inv-loop μ-loop
 loop-holds c = arms-count-start _ _ _ _ (c .before .pre .0) (c .before .pre .1 .0)
 
--- src/steps.rt:436:13
 end-of-requires : tie.Need-end-of-requires Inv-loop μ-loop
 end-of-requires c κs = let k = arms-count-arm (c .before .loop .inv) (c .loop-test .taken) _ _ refl refl in omega (arith, k .one, k .fits, k .tail, c .before .before .before .pre .1)
 
--- src/steps.rt:437:9
 end-of-requires-2 : tie.Need-end-of-requires-2 Inv-loop μ-loop
 end-of-requires-2 c κs = let k = arms-count-arm (c .before .before .loop .inv) (c .before .loop-test .taken) _ _ (c .end-of .ensures) refl in omega (arith, k .one, k .fits, k .tail, c .before .before .before .before .pre .1)
 
--- src/steps.rt:438:9
 add-n : tie.Need-add-n Inv-loop μ-loop
 add-n c = omega (arith, c .before .before .before .loop .inv .few, c .before .before .loop-test .taken, c .before .before .before .before .before .fits)
 
--- src/steps.rt:435:5
 loop-less : tie.Need-loop-less Inv-loop μ-loop
 loop-less c = let k = arms-count-arm (c .before .before .before .loop .inv) (c .before .before .loop-test .taken) _ _ (c .before .end-of .ensures) (c .end-of2 .ensures) in omega (arith, k .one, k .fits, k .tail, c .before .before .loop-test .taken)
 
--- src/steps.rt:435:5
 loop-again : tie.Need-loop-again Inv-loop μ-loop
 loop-again c = arms-count-next (c .before .before .before .loop .inv) (c .before .before .loop-test .taken) _ _ (c .before .end-of .ensures) (c .end-of2 .ensures)
 
--- src/steps.rt:428:1
 returns : tie.Need-returns Inv-loop μ-loop
 returns c = arms-count-end (c .before .loop .inv) (c .loop-test .left)
 

@@ -1,13 +1,14 @@
 -- An arm is the table's entry by computing; the last is for the numbers past its end.
 use Rattle.definitions.specs.Tag.{defaultTags}
 use Rattle.instr.specs.Values.{kth}
-use Rattle.instr.proofs.TableLaws.{those, kth-past, past}
+use Rattle.instr.proofs.TableLaws.{kth-past}
+use Rattle.laws.proofs.Arms.{those, past-first}
 use Rattle.instr.proofs.tables.default_tag.Statement.{statement}
 use Rattle.instr.proofs.tables.default_tag.Tie as tie
 
 returns-18 : tie.Need-returns-18
 unfolding defaultTags those
-returns-18 c = kth-past defaultTags (c .before .args .k) (past 17 (c .before .args .k) (c .match .rest))
+returns-18 c = kth-past defaultTags (c .before .args .k) (past-first 17 (c .before .args .k) (c .match .rest))
 
 pub default-tag-spec : {M : Type 1} → statement M
 unfolding defaultTags kth

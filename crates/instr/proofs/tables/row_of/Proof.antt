@@ -1,7 +1,8 @@
 -- An arm is the table's row by computing; the last is for the tags that use no field.
 use mathlib.Core.Path.{refl}
 use Rattle.definitions.specs.Tag.{rows, rowOf}
-use Rattle.instr.proofs.TableLaws.{those, uses, row-at, row-other}
+use Rattle.instr.proofs.TableLaws.{uses, row-at, row-other}
+use Rattle.laws.proofs.Arms.{those}
 use Rattle.instr.proofs.tables.row_of.Statement.{statement}
 use Rattle.instr.proofs.tables.row_of.Tie as tie
 

@@ -1,7 +1,8 @@
 -- An arm is the table's entry by computing; the last is for the tags that the base does not emit.
 use mathlib.Core.Path.{refl}
 use Rattle.definitions.specs.Tag.{sizes, tagSize, emitted}
-use Rattle.instr.proofs.TableLaws.{those, size-at, size-other}
+use Rattle.instr.proofs.TableLaws.{size-at, size-other}
+use Rattle.laws.proofs.Arms.{those}
 use Rattle.instr.proofs.tables.size_of.Statement.{statement}
 use Rattle.instr.proofs.tables.size_of.Tie as tie
 

@@ -21,43 +21,33 @@ Inv-loop s at end depth i₀ k₀ v₀ i k v = FlagsRest depth s end (requireFla
 abbrev μ-loop : tie.MeasureT-loop
 μ-loop s at end depth i₀ k₀ v₀ i k v = end - i
 
--- src/steps.rt:511:5
 loop-holds : tie.Need-loop-holds Inv-loop μ-loop
 loop-holds c = flags-start _ _ _ _ _ (c .before .pre .0) (c .before .pre .1 .0)
 
--- src/steps.rt:512:30
 is-prvalue-ref-requires : tie.Need-is-prvalue-ref-requires Inv-loop μ-loop
 is-prvalue-ref-requires c κs = search needs
 
--- src/steps.rt:512:13
 flag-fits-requires : tie.Need-flag-fits-requires Inv-loop μ-loop
 flag-fits-requires c κs = search needs
 
--- src/steps.rt:513:37
 add-require : tie.Need-add-require Inv-loop μ-loop
 add-require c = omega (arith, c .before .before .before .loop .inv .few, c .before .before .before .loop .inv .to, c .before .before .before .before .before .fits)
 
--- src/steps.rt:513:9
 require-requires : tie.Need-require-requires Inv-loop μ-loop
 require-requires c κs = search needs
 
--- src/steps.rt:514:9
 end-of-requires : tie.Need-end-of-requires Inv-loop μ-loop
 end-of-requires c κs = omega (arith, expr-placed _ _ _ _ (arg-turn _ _ _ _ (c .before .before .before .before .loop .inv .acc) (c .before .before .before .loop-test .taken) .reads) .0, c .before .before .before .before .before .before .pre .1)
 
--- src/steps.rt:515:9
 add-k : tie.Need-add-k Inv-loop μ-loop
 add-k c = omega (arith, c .before .before .before .before .before .loop .inv .few, c .before .before .before .before .before .loop .inv .to, c .before .before .before .before .before .before .before .fits)
 
--- src/steps.rt:511:5
 loop-less : tie.Need-loop-less Inv-loop μ-loop
 loop-less c = omega (arith, c .end-of .ensures, c .before .before .before .before .loop-test .taken)
 
--- src/steps.rt:511:5
 loop-again : tie.Need-loop-again Inv-loop μ-loop
 loop-again c = flags-next (c .before .before .before .before .before .loop .inv) (c .before .before .before .before .loop-test .taken) _ _ _ _ (c .before .before .before .is-prvalue-ref .ensures) (c .before .before .flag-fits .ensures) (c .before .require .ensures) (c .end-of .ensures)
 
--- src/steps.rt:503:1
 returns : tie.Need-returns Inv-loop μ-loop
 returns c = flags-end (c .before .loop .inv) (c .loop-test .left)
 

@@ -18,79 +18,60 @@ use Rattle.instr.proofs.numbers.u16_at.Reads as u16-at-reads
 use Rattle.instr.proofs.numbers.u32_at.Reads as u32-at-reads
 use Rattle.instr.proofs.numbers.wide.Reads as wide-reads
 
--- src/steps.rt:525:17
 add-first : tie.Need-add-first
 add-first c = search needs
 
--- src/steps.rt:525:34
 add-wide : tie.Need-add-wide
 add-wide c = search needs
 
--- src/steps.rt:525:32
 shared-slice-read-wide : tie.Need-shared-slice-read-wide
 shared-slice-read-wide c = search needs
 
--- src/steps.rt:525:27
 wide-requires : tie.Need-wide-requires
 wide-requires c κs = search needs
 
--- src/steps.rt:525:17
 add-first-2 : tie.Need-add-first-2
 add-first-2 c = search needs
 
--- src/steps.rt:526:9
 flags-of-requires : tie.Need-flags-of-requires
 flags-of-requires c κs = called-at _ _ _ _ _ (c .wide .ensures .0) (c .before .before .before .before .pre .0) (c .before .before .before .before .pre .1)
 
--- src/steps.rt:527:26
 add-u16-at : tie.Need-add-u16-at
 add-u16-at c = search needs
 
--- src/steps.rt:527:9
 u16-at-requires : tie.Need-u16-at-requires
 u16-at-requires c κs = search needs
 
--- src/steps.rt:528:10
 add-if1 : tie.Need-add-if1
 add-if1 c = search needs
 
--- src/steps.rt:528:8
 shared-slice-read-if1 : tie.Need-shared-slice-read-if1
 shared-slice-read-if1 c = search needs
 
--- src/steps.rt:529:30
 add-u32-at : tie.Need-add-u32-at
 add-u32-at c = search needs
 
--- src/steps.rt:529:13
 u32-at-requires : tie.Need-u32-at-requires
 u32-at-requires c κs = search needs
 
--- src/steps.rt:530:9
 invoke-requires : tie.Need-invoke-requires
 invoke-requires c κs = search needs
 
--- src/steps.rt:530:9
 returns : tie.Need-returns
 returns c = invoke-virtual _ _ _ _ _ (c .before .before .before .before .before .before .before .before .flags-of .ensures ∙ ap (λ x. flagsOf (exprsOf (listOf (exprsFrom (c .before .before .before .before .before .before .before .before .before .before .before .before .before .args .depth) (c .before .before .before .before .before .before .before .before .before .before .before .before .before .args .s .now) (c .before .before .before .before .before .before .before .before .before .before .before .before .before .args .end) (c .before .before .before .before .before .before .before .before .before .before .before .before .before .args .at + 16 + x)))) 1 % 2 ^ 16) (c .before .before .before .before .before .before .before .before .before .wide .ensures .0)) (c .before .before .before .before .before .before .before .u16-at .ensures .0) _ (c .before .before .before .before .before .if1 .taken) (c .before .before .before .before .u32-at .ensures .0) (c .before .before .invoke .ensures)
 
--- src/steps.rt:532:9
 u32-at-requires-2 : tie.Need-u32-at-requires-2
 u32-at-requires-2 c κs = search needs
 
--- src/steps.rt:533:5
 invoke-requires-2 : tie.Need-invoke-requires-2
 invoke-requires-2 c κs = search needs
 
--- src/steps.rt:520:1
 returns-2 : tie.Need-returns-2
 returns-2 c = invoke-static _ _ _ _ _ (c .before .before .before .before .before .before .before .before .flags-of .ensures ∙ ap (λ x. flagsOf (exprsOf (listOf (exprsFrom (c .before .before .before .before .before .before .before .before .before .before .before .before .before .args .depth) (c .before .before .before .before .before .before .before .before .before .before .before .before .before .args .s .now) (c .before .before .before .before .before .before .before .before .before .before .before .before .before .args .end) (c .before .before .before .before .before .before .before .before .before .before .before .before .before .args .at + 16 + x)))) 1 % 2 ^ 16) (c .before .before .before .before .before .before .before .before .before .wide .ensures .0)) (c .before .before .before .before .before .before .before .u16-at .ensures .0) _ (c .before .before .before .before .before .if1 .left) (c .before .before .before .before .u32-at2 .ensures .0) (c .before .before .invoke2 .ensures)
 
--- src/steps.rt:530:9
 same-length : tie.Need-same-length
 same-length c = search needs
 
--- src/steps.rt:520:1
 same-length-2 : tie.Need-same-length-2
 same-length-2 c = search needs
 

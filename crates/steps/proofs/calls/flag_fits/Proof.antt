@@ -6,11 +6,9 @@ use Rattle.steps.proofs.calls.flag_fits.Tie as tie
 use Rattle.steps.proofs.calls.flag_fits.Reads as reads
 use Rattle.steps.proofs.calls.flag_fits.Lts as lts
 
--- src/steps.rt:487:9
 returns : tie.Need-returns
 returns c = rw (c .if1 .taken) refl
 
--- src/steps.rt:483:1
 returns-2 : tie.Need-returns-2
 returns-2 c = rw (c .if1 .left) refl
 

@@ -21,39 +21,30 @@ Inv-loop s at end depth i₀ bit₀ flags₀ i bit flags = BitsRest depth s end 
 abbrev μ-loop : tie.MeasureT-loop
 μ-loop s at end depth i₀ bit₀ flags₀ i bit flags = end - i
 
--- src/steps.rt:529:5
 loop-holds : tie.Need-loop-holds Inv-loop μ-loop
 loop-holds c = bits-start _ _ _ _ (c .before .pre .0) (c .before .pre .1 .0)
 
--- src/steps.rt:530:48
 is-prvalue-ref-requires : tie.Need-is-prvalue-ref-requires Inv-loop μ-loop
 is-prvalue-ref-requires c κs = search needs
 
--- src/steps.rt:530:41
 bit-if-requires : tie.Need-bit-if-requires Inv-loop μ-loop
 bit-if-requires c κs = search needs
 
--- src/steps.rt:530:9
 wrapping-add-u16-requires : tie.Need-wrapping-add-u16-requires Inv-loop μ-loop
 wrapping-add-u16-requires c κs = search needs
 
--- src/steps.rt:531:9
 wrapping-add-u16-requires-2 : tie.Need-wrapping-add-u16-requires-2 Inv-loop μ-loop
 wrapping-add-u16-requires-2 c κs = search needs
 
--- src/steps.rt:532:9
 end-of-requires : tie.Need-end-of-requires Inv-loop μ-loop
 end-of-requires c κs = omega (arith, expr-placed _ _ _ _ (arg-turn _ _ _ _ (c .before .before .before .before .before .loop .inv .acc) (c .before .before .before .before .loop-test .taken) .reads) .0, c .before .before .before .before .before .before .before .pre .1)
 
--- src/steps.rt:529:5
 loop-less : tie.Need-loop-less Inv-loop μ-loop
 loop-less c = omega (arith, c .end-of .ensures, c .before .before .before .before .before .loop-test .taken)
 
--- src/steps.rt:529:5
 loop-again : tie.Need-loop-again Inv-loop μ-loop
 loop-again c = bits-next (c .before .before .before .before .before .before .loop .inv) (c .before .before .before .before .before .loop-test .taken) _ _ _ _ _ (c .before .before .before .before .is-prvalue-ref .ensures) (c .before .before .before .bit-if .ensures) (c .before .before .wrapping-add-u16 .ensures) (c .before .wrapping-add-u162 .ensures) (c .end-of .ensures)
 
--- src/steps.rt:521:1
 returns : tie.Need-returns Inv-loop μ-loop
 returns c = bits-end (c .before .loop .inv) (c .loop-test .left)
 

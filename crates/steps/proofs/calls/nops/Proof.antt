@@ -13,31 +13,24 @@ Inv-loop n out₀ v₀ left₀ out v left = NopsRest n v₀ out₀ left v out
 abbrev μ-loop : tie.MeasureT-loop
 μ-loop n out₀ v₀ left₀ out v left = left
 
--- src/steps.rt:542:5
 loop-holds : tie.Need-loop-holds Inv-loop μ-loop
 loop-holds c = nops-start _ _ _
 
--- src/steps.rt:543:9
 plain-requires : tie.Need-plain-requires Inv-loop μ-loop
 plain-requires c κs = search needs
 
--- src/steps.rt:544:9
 sub-left : tie.Need-sub-left Inv-loop μ-loop
 sub-left c = search needs
 
--- src/steps.rt:542:5
 loop-less : tie.Need-loop-less Inv-loop μ-loop
 loop-less c = search needs
 
--- src/steps.rt:542:5
 loop-again : tie.Need-loop-again Inv-loop μ-loop
 loop-again c = nops-next (c .before .before .before .before .before .loop .inv) (c .before .before .before .before .loop-test .taken) (c .before .before .plain .ensures)
 
--- src/steps.rt:537:1
 returns : tie.Need-returns Inv-loop μ-loop
 returns c = nops-end (c .before .loop .inv) (c .loop-test .left)
 
--- src/steps.rt:537:1
 same-length : tie.Need-same-length Inv-loop μ-loop
 same-length c = c .before .loop .inv .outs
 

@@ -7,19 +7,15 @@ use Rattle.steps.proofs.calls.weak_to_ref.Reads as reads
 use Rattle.steps.proofs.calls.weak_to_ref.Lts as lts
 use Rattle.steps.proofs.records.plain.Reads as plain-reads
 
--- src/steps.rt:408:9
 returns : tie.Need-returns
 returns c = weak-none _ _ _ (c .if1 .taken)
 
--- src/steps.rt:410:5
 plain-requires : tie.Need-plain-requires
 plain-requires c κs = search needs
 
--- src/steps.rt:404:1
 returns-2 : tie.Need-returns-2
 returns-2 c = weak-some _ (c .before .before .before .before .if1 .left) (c .before .before .plain .ensures)
 
--- src/steps.rt:404:1
 same-length : tie.Need-same-length
 same-length c = search needs
 

@@ -7,24 +7,19 @@ use Rattle.steps.proofs.labels.labels_of.Tie as tie
 use Rattle.steps.proofs.labels.labels_of.Reads as reads
 use Rattle.steps.proofs.labels.labels_of.Lts as lts
 
--- src/steps.rt:226:21
 enum-known-w : tie.Need-enum-known-w
 enum-known-w c = search needs
 
--- src/steps.rt:227:9
 enum-told : tie.Need-enum-told
 enum-told c = search needs
 
--- src/steps.rt:227:9
 returns : tie.Need-returns
 unfolding labelsOf
 returns c = (sym (ap labelsOf (c .enum-told .given .1)), omega arith)
 
--- src/steps.rt:229:5
 cast-result : tie.Need-cast-result
 cast-result c = search needs
 
--- src/steps.rt:223:1
 returns-2 : tie.Need-returns-2
 unfolding labelsOf
 returns-2 c = (sym (ap labelsOf (c .before .before .w .given .1)), omega arith)

@@ -7,27 +7,21 @@ use Rattle.steps.proofs.labels.mark_label.Reads as reads
 use Rattle.steps.proofs.labels.mark_label.Lts as lts
 use Rattle.steps.proofs.labels.put_made.Reads as put-made-reads
 
--- src/steps.rt:280:21
 enum-known-w : tie.Need-enum-known-w
 enum-known-w c = search needs
 
--- src/steps.rt:281:9
 enum-told : tie.Need-enum-told
 enum-told c = search needs
 
--- src/steps.rt:281:9
 returns : tie.Need-returns
 returns c = label-stays _ _ _ _ (c .enum-told .given .1)
 
--- src/steps.rt:283:5
 put-made-requires : tie.Need-put-made-requires
 put-made-requires c κs = search needs
 
--- src/steps.rt:277:1
 returns-2 : tie.Need-returns-2
 returns-2 c = mark-did _ _ _ _ _ (c .before .before .before .before .before .w .given .1) (c .before .before .put-made .ensures) (c .before .before .put-made .kept .0)
 
--- src/steps.rt:277:1
 same-length : tie.Need-same-length
 same-length c = search needs
 

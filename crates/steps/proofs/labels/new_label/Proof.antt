@@ -7,39 +7,30 @@ use Rattle.steps.proofs.labels.new_label.Reads as reads
 use Rattle.steps.proofs.labels.new_label.Lts as lts
 use Rattle.steps.proofs.labels.put_mark.Reads as put-mark-reads
 
--- src/steps.rt:236:21
 enum-known-w : tie.Need-enum-known-w
 enum-known-w c = search needs
 
--- src/steps.rt:237:9
 enum-told : tie.Need-enum-told
 enum-told c = search needs
 
--- src/steps.rt:237:9
 returns : tie.Need-returns
 returns c = label-stays _ _ _ _ (c .enum-told .given .1)
 
--- src/steps.rt:241:25
 cast-put-mark : tie.Need-cast-put-mark
 cast-put-mark c = search needs
 
--- src/steps.rt:241:9
 put-mark-requires : tie.Need-put-mark-requires
 put-mark-requires c κs = search needs
 
--- src/steps.rt:244:21
 add-t11 : tie.Need-add-t11
 add-t11 c = search needs
 
--- src/steps.rt:242:9
 returns-2 : tie.Need-returns-2
 returns-2 c = new-did _ _ _ _ _ (c .before .before .before .before .if1 .taken) (c .before .before .before .before .before .before .w .given .1) (c .before .before .put-mark .ensures)
 
--- src/steps.rt:233:1
 returns-3 : tie.Need-returns-3
 returns-3 c = new-stopped _ _ _ _ (c .if1 .left) (c .before .before .w .given .1)
 
--- src/steps.rt:242:9
 same-length : tie.Need-same-length
 same-length c = search needs
 

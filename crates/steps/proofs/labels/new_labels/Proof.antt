@@ -13,31 +13,24 @@ Inv-loop at n marks₀ v₀ left₀ marks v left = NewRest at n v₀ marks₀ le
 abbrev μ-loop : tie.MeasureT-loop
 μ-loop at n marks₀ v₀ left₀ marks v left = left
 
--- src/steps.rt:261:5
 loop-holds : tie.Need-loop-holds Inv-loop μ-loop
 loop-holds c = new-start _ _ _ _
 
--- src/steps.rt:262:9
 new-label-requires : tie.Need-new-label-requires Inv-loop μ-loop
 new-label-requires c κs = search needs
 
--- src/steps.rt:263:9
 sub-left : tie.Need-sub-left Inv-loop μ-loop
 sub-left c = search needs
 
--- src/steps.rt:261:5
 loop-less : tie.Need-loop-less Inv-loop μ-loop
 loop-less c = search needs
 
--- src/steps.rt:261:5
 loop-again : tie.Need-loop-again Inv-loop μ-loop
 loop-again c = new-next (c .before .before .before .before .before .loop .inv) (c .before .before .before .before .loop-test .taken) (c .before .before .new-label .ensures)
 
--- src/steps.rt:256:1
 returns : tie.Need-returns Inv-loop μ-loop
 returns c = new-end (c .before .loop .inv) (c .loop-test .left)
 
--- src/steps.rt:256:1
 same-length : tie.Need-same-length Inv-loop μ-loop
 same-length c = c .before .loop .inv .marked
 

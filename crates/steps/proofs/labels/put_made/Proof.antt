@@ -7,19 +7,15 @@ use Rattle.steps.proofs.labels.put_made.Reads as reads
 use Rattle.steps.proofs.labels.put_made.Lts as lts
 use Rattle.steps.proofs.labels.put_mark.Reads as put-mark-reads
 
--- src/steps.rt:226:9
 put-mark-requires : tie.Need-put-mark-requires
 put-mark-requires c κs = search needs
 
--- src/steps.rt:222:1
 returns : tie.Need-returns
 returns c = made-set _ _ _ _ (c .before .before .before .before .if1 .taken) (c .before .before .put-mark .ensures)
 
--- src/steps.rt:222:1
 returns-2 : tie.Need-returns-2
 returns-2 c = made-not _ _ _ _ (c .if1 .left)
 
--- src/steps.rt:222:1
 same-length : tie.Need-same-length
 same-length c = search needs
 

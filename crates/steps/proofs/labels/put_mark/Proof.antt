@@ -7,23 +7,18 @@ use Rattle.steps.proofs.labels.put_mark.Tie as tie
 use Rattle.steps.proofs.labels.put_mark.Reads as reads
 use Rattle.steps.proofs.labels.put_mark.Lts as lts
 
--- src/steps.rt:218:9
 mul-marks : tie.Need-mul-marks
 mul-marks c = search needs
 
--- src/steps.rt:218:9
 slice-write-marks : tie.Need-slice-write-marks
 slice-write-marks c = search needs
 
--- src/steps.rt:214:1
 returns : tie.Need-returns
 returns c = search needs
 
--- src/steps.rt:214:1
 returns-2 : tie.Need-returns-2
 returns-2 c = sym (set-out _ _ _ (c .if1 .left))
 
--- src/steps.rt:214:1
 same-length : tie.Need-same-length
 same-length c = search needs
 

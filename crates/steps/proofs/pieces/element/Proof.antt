@@ -9,28 +9,22 @@ use Rattle.steps.proofs.pieces.element.Reads as reads
 use Rattle.steps.proofs.pieces.element.Lts as lts
 use Rattle.steps.proofs.records.plain.Reads as plain-reads
 
--- src/steps.rt:562:9
 plain-requires : tie.Need-plain-requires
 plain-requires c κs = search needs
 
--- src/steps.rt:563:9
 plain-requires-2 : tie.Need-plain-requires-2
 plain-requires-2 c κs = search needs
 
--- src/steps.rt:564:9
 plain-requires-3 : tie.Need-plain-requires-3
 plain-requires-3 c κs = search needs
 
--- src/steps.rt:565:5
 plain-requires-4 : tie.Need-plain-requires-4
 plain-requires-4 c κs = search needs
 
--- src/steps.rt:559:1
 returns : tie.Need-returns
 unfolding elementCode emits
 returns c = emitted-both (c .before .before .before .before .before .before .before .before .before .before .before .before .before .before .plain .ensures) (emitted-both (c .before .before .before .before .before .before .before .before .before .before .plain2 .ensures) (emitted-both (c .before .before .before .before .before .before .plain3 .ensures) (emitted-both (c .before .before .plain4 .ensures) none-emitted)))
 
--- src/steps.rt:559:1
 same-length : tie.Need-same-length
 same-length c = search needs
 

@@ -8,20 +8,16 @@ use Rattle.steps.proofs.pieces.returned.Reads as reads
 use Rattle.steps.proofs.pieces.returned.Lts as lts
 use Rattle.steps.proofs.records.plain.Reads as plain-reads
 
--- src/steps.rt:554:9
 plain-requires : tie.Need-plain-requires
 plain-requires c κs = search needs
 
--- src/steps.rt:555:5
 plain-requires-2 : tie.Need-plain-requires-2
 plain-requires-2 c κs = search needs
 
--- src/steps.rt:551:1
 returns : tie.Need-returns
 unfolding lowerReturnNothing
 returns c = emitted-both (c .before .before .before .before .before .before .plain .ensures) (c .before .before .plain2 .ensures)
 
--- src/steps.rt:551:1
 same-length : tie.Need-same-length
 same-length c = search needs
 

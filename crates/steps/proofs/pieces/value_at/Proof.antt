@@ -1,5 +1,5 @@
 use Rattle.definitions.specs.Tag.{constWidths}
-use Rattle.instr.proofs.TableLaws.{those, past}
+use Rattle.laws.proofs.Arms.{those, past-first}
 use Rattle.steps.proofs.LeafLaws.{by-width, one-byte, no-width}
 use borrow.Author.Needs.{needs}
 use Rattle.steps.proofs.pieces.value_at.Statement.{statement}
@@ -71,7 +71,7 @@ returns-16 c = by-width _ 15 _ _ _ (c .before .before .match .keys16) (one-byte 
 
 returns-17 : tie.Need-returns-17
 unfolding those
-returns-17 c = no-width _ _ _ (past 16 _ (c .match .rest))
+returns-17 c = no-width _ _ _ (past-first 16 _ (c .match .rest))
 
 pub value-at-spec : {M : Type 1} → statement M
 value-at-spec = tie.close (tie.spec (λ c κs. search needs) (λ c κs. search needs) (λ c κs. search needs)

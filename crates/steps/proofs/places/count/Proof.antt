@@ -14,27 +14,21 @@ Inv-loop s at end depth i₀ n₀ i n = CountRest depth s end at i n
 abbrev μ-loop : tie.MeasureT-loop
 μ-loop s at end depth i₀ n₀ i n = end - i
 
--- src/steps.rt:421:5
 loop-holds : tie.Need-loop-holds Inv-loop μ-loop
 loop-holds c = count-start _ _ _ _ (c .before .pre .0) (c .before .pre .1 .0)
 
--- src/steps.rt:422:9
 end-of-requires : tie.Need-end-of-requires Inv-loop μ-loop
 end-of-requires c κs = omega (arith, expr-placed _ _ _ _ (count-turn (c .before .loop .inv) (c .loop-test .taken) .reads) .0, c .before .before .before .pre .1)
 
--- src/steps.rt:423:9
 add-n : tie.Need-add-n Inv-loop μ-loop
 add-n c = omega (arith, c .before .before .loop .inv .few, c .before .loop-test .taken, c .before .before .before .before .fits)
 
--- src/steps.rt:421:5
 loop-less : tie.Need-loop-less Inv-loop μ-loop
 loop-less c = omega (arith, c .end-of .ensures, c .before .loop-test .taken)
 
--- src/steps.rt:421:5
 loop-again : tie.Need-loop-again Inv-loop μ-loop
 loop-again c = count-next (c .before .before .loop .inv) (c .before .loop-test .taken) _ (c .end-of .ensures)
 
--- src/steps.rt:414:1
 returns : tie.Need-returns Inv-loop μ-loop
 returns c = count-end (c .before .loop .inv) (c .loop-test .left)
 

@@ -10,43 +10,33 @@ use Rattle.steps.proofs.records.record_of.Reads as record-of-reads
 use Rattle.steps.proofs.records.size_of.Reads as size-of-reads
 use Rattle.std.proofs.num.wrapping_add_u32.Reads as wrapping-add-u32-reads
 
--- src/steps.rt:93:21
 enum-known-w : tie.Need-enum-known-w
 enum-known-w c = search needs
 
--- src/steps.rt:94:9
 enum-told : tie.Need-enum-told
 enum-told c = search needs
 
--- src/steps.rt:94:9
 returns : tie.Need-returns
 returns c = emit-stays _ _ _ _ (c .enum-told .given .1)
 
--- src/steps.rt:96:30
 record-of-requires : tie.Need-record-of-requires
 record-of-requires c κs = search needs
 
--- src/steps.rt:96:5
 put-record-requires : tie.Need-put-record-requires
 put-record-requires c κs = search needs
 
--- src/steps.rt:98:44
 size-of-requires : tie.Need-size-of-requires
 size-of-requires c κs = search needs
 
--- src/steps.rt:98:17
 wrapping-add-u32-requires : tie.Need-wrapping-add-u32-requires
 wrapping-add-u32-requires c κs = search needs
 
--- src/steps.rt:100:16
 wrapping-add-u32-requires-2 : tie.Need-wrapping-add-u32-requires-2
 wrapping-add-u32-requires-2 c κs = search needs
 
--- src/steps.rt:90:1
 returns-2 : tie.Need-returns-2
 returns-2 c = emit-did _ _ _ _ _ _ _ _ _ (c .before .before .before .before .before .before .before .before .before .w .given .1) (c .before .before .before .before .before .before .record-of .ensures) (c .before .before .size-of .ensures) (c .before .wrapping-add-u32 .ensures) (c .wrapping-add-u322 .ensures) (c .before .before .before .before .before .put-record .ensures) (c .before .before .before .before .before .put-record .kept .0)
 
--- src/steps.rt:90:1
 same-length : tie.Need-same-length
 same-length c = search needs
 

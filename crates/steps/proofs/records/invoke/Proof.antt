@@ -6,15 +6,12 @@ use Rattle.steps.proofs.records.invoke.Reads as reads
 use Rattle.steps.proofs.records.invoke.Lts as lts
 use Rattle.steps.proofs.records.emit.Reads as emit-reads
 
--- src/steps.rt:196:5
 emit-requires : tie.Need-emit-requires
 emit-requires c κs = search needs
 
--- src/steps.rt:193:1
 returns : tie.Need-returns
 returns c = c .before .before .emit .ensures
 
--- src/steps.rt:193:1
 same-length : tie.Need-same-length
 same-length c = search needs
 

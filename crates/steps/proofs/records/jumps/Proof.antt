@@ -6,15 +6,12 @@ use Rattle.steps.proofs.records.jumps.Reads as reads
 use Rattle.steps.proofs.records.jumps.Lts as lts
 use Rattle.steps.proofs.records.emit.Reads as emit-reads
 
--- src/steps.rt:160:5
 emit-requires : tie.Need-emit-requires
 emit-requires c κs = search needs
 
--- src/steps.rt:157:1
 returns : tie.Need-returns
 returns c = c .before .before .emit .ensures
 
--- src/steps.rt:157:1
 same-length : tie.Need-same-length
 same-length c = search needs
 

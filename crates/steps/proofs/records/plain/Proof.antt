@@ -9,27 +9,21 @@ use Rattle.steps.proofs.records.emit.Reads as emit-reads
 use Rattle.steps.proofs.records.masked.Reads as masked-reads
 use Rattle.instr.proofs.tables.row_of.Reads as row-of-reads
 
--- src/steps.rt:118:9
 row-of-requires : tie.Need-row-of-requires
 row-of-requires c κs = search needs
 
--- src/steps.rt:119:9
 masked-requires : tie.Need-masked-requires
 masked-requires c κs = search needs
 
--- src/steps.rt:120:9
 masked-requires-2 : tie.Need-masked-requires-2
 masked-requires-2 c κs = search needs
 
--- src/steps.rt:121:5
 emit-requires : tie.Need-emit-requires
 emit-requires c κs = search needs
 
--- src/steps.rt:115:1
 returns : tie.Need-returns
 returns c = plain-did _ _ _ _ _ _ (c .before .before .before .before .before .before .row-of .ensures) (c .before .before .before .before .before .masked .ensures) (c .before .before .before .before .masked2 .ensures) (c .before .before .emit .ensures)
 
--- src/steps.rt:115:1
 same-length : tie.Need-same-length
 same-length c = search needs
 

@@ -7,39 +7,30 @@ use Rattle.steps.proofs.records.put_record.Reads as reads
 use Rattle.steps.proofs.records.put_record.Lts as lts
 use Rattle.instr.proofs.records.write_record.Reads as write-record-reads
 
--- src/steps.rt:63:34
 mul-from : tie.Need-mul-from
 mul-from c = search needs
 
--- src/steps.rt:63:16
 add-from : tie.Need-add-from
 add-from c = search needs
 
--- src/steps.rt:65:31
 sub-write-record : tie.Need-sub-write-record
 sub-write-record c = search needs
 
--- src/steps.rt:65:31
 part-write-record-start : tie.Need-part-write-record-start
 part-write-record-start c = search needs
 
--- src/steps.rt:65:31
 part-write-record-end : tie.Need-part-write-record-end
 part-write-record-end c = search needs
 
--- src/steps.rt:65:9
 write-record-requires : tie.Need-write-record-requires
 write-record-requires c κs = search needs
 
--- src/steps.rt:60:1
 returns : tie.Need-returns
 returns c = put-in _ _ _ _ (c .before .before .before .before .if1 .taken) (c .before .before .write-record .ensures .1)
 
--- src/steps.rt:60:1
 returns-2 : tie.Need-returns-2
 returns-2 c = put-out _ _ _ (c .if1 .left)
 
--- src/steps.rt:60:1
 same-length : tie.Need-same-length
 same-length c = search needs
 

@@ -8,31 +8,24 @@ use Rattle.steps.proofs.refusals.jump_to.Lts as lts
 use Rattle.steps.proofs.records.jump.Reads as jump-reads
 use Rattle.steps.proofs.refusals.refuse.Reads as refuse-reads
 
--- src/steps.rt:309:23
 enum-known-target : tie.Need-enum-known-target
 enum-known-target c = search needs
 
--- src/steps.rt:309:29
 jump-requires : tie.Need-jump-requires
 jump-requires c κs = search needs
 
--- src/steps.rt:310:28
 enum-told : tie.Need-enum-told
 enum-told c = search needs
 
--- src/steps.rt:310:28
 refuse-requires : tie.Need-refuse-requires
 refuse-requires c κs = search needs
 
--- src/steps.rt:305:1
 returns : tie.Need-returns
 returns c = jump-did _ _ _ _ (c .before .before .before .before .before .target .given .1) (c .before .before .jump .ensures)
 
--- src/steps.rt:305:1
 returns-2 : tie.Need-returns-2
 returns-2 c = no-jump _ _ _ _ (c .before .enum-told .given .1) (c .refuse .ensures)
 
--- src/steps.rt:305:1
 same-length : tie.Need-same-length
 same-length c = search needs
 

@@ -6,19 +6,15 @@ use Rattle.steps.proofs.refusals.refuse.Tie as tie
 use Rattle.steps.proofs.refusals.refuse.Reads as reads
 use Rattle.steps.proofs.refusals.refuse.Lts as lts
 
--- src/steps.rt:284:21
 enum-known-w : tie.Need-enum-known-w
 enum-known-w c = search needs
 
--- src/steps.rt:285:9
 enum-told : tie.Need-enum-told
 enum-told c = search needs
 
--- src/steps.rt:285:9
 returns : tie.Need-returns
 returns c = all-stays _ _ _ (c .enum-told .given .1)
 
--- src/steps.rt:281:1
 returns-2 : tie.Need-returns-2
 returns-2 c = refuse-did _ _ _ _ _ (c .before .w .given .1)
 

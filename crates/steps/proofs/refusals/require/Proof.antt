@@ -7,15 +7,12 @@ use Rattle.steps.proofs.refusals.require.Reads as reads
 use Rattle.steps.proofs.refusals.require.Lts as lts
 use Rattle.steps.proofs.refusals.refuse.Reads as refuse-reads
 
--- src/steps.rt:299:9
 returns : tie.Need-returns
 returns c = require-passed _ _ _ _ _ (c .if1 .taken)
 
--- src/steps.rt:301:5
 refuse-requires : tie.Need-refuse-requires
 refuse-requires c κs = search needs
 
--- src/steps.rt:295:1
 returns-2 : tie.Need-returns-2
 returns-2 c = require-failed _ _ _ _ _ _ (c .before .if1 .left) (c .refuse .ensures)
 

@@ -7,7 +7,6 @@ use Rattle.steps.proofs.spans.in_loop.Tie as tie
 use Rattle.steps.proofs.spans.in_loop.Reads as reads
 use Rattle.steps.proofs.spans.in_loop.Lts as lts
 
--- src/steps.rt:316:1
 returns : tie.Need-returns
 unfolding spanOf targetOf
 returns c = refl

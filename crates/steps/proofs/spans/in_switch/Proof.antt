@@ -7,7 +7,6 @@ use Rattle.steps.proofs.spans.in_switch.Tie as tie
 use Rattle.steps.proofs.spans.in_switch.Reads as reads
 use Rattle.steps.proofs.spans.in_switch.Lts as lts
 
--- src/steps.rt:326:1
 returns : tie.Need-returns
 unfolding spanOf targetOf
 returns c = refl

@@ -7,11 +7,9 @@ use Rattle.steps.proofs.switches.ends_group.Tie as tie
 use Rattle.steps.proofs.switches.ends_group.Reads as reads
 use Rattle.steps.proofs.switches.ends_group.Lts as lts
 
--- src/steps.rt:616:9
 returns : tie.Need-returns
 returns c = rw (lt-ltb _ _ (c .if1 .taken)) refl
 
--- src/steps.rt:612:1
 returns-2 : tie.Need-returns-2
 returns-2 c = rw (le-ltb _ _ (c .if1 .left)) refl
 

@@ -7,12 +7,10 @@ use Rattle.steps.proofs.switches.group_after.Tie as tie
 use Rattle.steps.proofs.switches.group_after.Reads as reads
 use Rattle.steps.proofs.switches.group_after.Lts as lts
 
--- src/steps.rt:645:9
 returns : tie.Need-returns
 unfolding targetOf
 returns c = rw (c .if1 .taken) refl
 
--- src/steps.rt:641:1
 returns-2 : tie.Need-returns-2
 unfolding targetOf
 returns-2 c = rw (c .if1 .left) refl

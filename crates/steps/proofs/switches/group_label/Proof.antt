@@ -7,23 +7,18 @@ use Rattle.steps.proofs.switches.group_label.Reads as reads
 use Rattle.steps.proofs.switches.group_label.Lts as lts
 use Rattle.steps.proofs.labels.labels_of.Reads as labels-of-reads
 
--- src/steps.rt:626:23
 enum-known-group : tie.Need-enum-known-group
 enum-known-group c = search needs
 
--- src/steps.rt:627:28
 enum-told : tie.Need-enum-told
 enum-told c = search needs
 
--- src/steps.rt:627:28
 labels-of-requires : tie.Need-labels-of-requires
 labels-of-requires c κs = search needs
 
--- src/steps.rt:622:1
 returns : tie.Need-returns
 returns c = group-is _ _ _ (c .before .group .given .1)
 
--- src/steps.rt:622:1
 returns-2 : tie.Need-returns-2
 returns-2 c = group-new _ _ _ (c .before .enum-told .given .1) (c .labels-of .ensures .0)
 

@@ -6,11 +6,9 @@ use Rattle.steps.proofs.switches.is_mid.Tie as tie
 use Rattle.steps.proofs.switches.is_mid.Reads as reads
 use Rattle.steps.proofs.switches.is_mid.Lts as lts
 
--- src/steps.rt:695:9
 returns : tie.Need-returns
 returns c = mid-no (c .before .args .there) (c .before .args .index) (c .before .args .n) (c .if1 .taken)
 
--- src/steps.rt:691:1
 returns-2 : tie.Need-returns-2
 returns-2 c = mid-is (c .before .args .there) (c .before .args .index) (c .before .args .n) (c .if1 .left)
 

@@ -7,11 +7,9 @@ use Rattle.steps.proofs.switches.is_same.Tie as tie
 use Rattle.steps.proofs.switches.is_same.Reads as reads
 use Rattle.steps.proofs.switches.is_same.Lts as lts
 
--- src/steps.rt:704:9
 returns : tie.Need-returns
 returns c = same-yes _ _ (c .if1 .taken)
 
--- src/steps.rt:700:1
 returns-2 : tie.Need-returns-2
 returns-2 c = same-no _ _ (c .if1 .left)
 

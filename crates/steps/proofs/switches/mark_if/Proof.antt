@@ -7,19 +7,15 @@ use Rattle.steps.proofs.switches.mark_if.Reads as reads
 use Rattle.steps.proofs.switches.mark_if.Lts as lts
 use Rattle.steps.proofs.labels.mark_label.Reads as mark-label-reads
 
--- src/steps.rt:713:9
 returns : tie.Need-returns
 returns c = mark-not _ _ _ _ (c .if1 .taken)
 
--- src/steps.rt:715:5
 mark-label-requires : tie.Need-mark-label-requires
 mark-label-requires c κs = search needs
 
--- src/steps.rt:709:1
 returns-2 : tie.Need-returns-2
 returns-2 c = mark-here _ _ (c .before .before .before .before .if1 .left) (c .before .before .mark-label .ensures)
 
--- src/steps.rt:709:1
 same-length : tie.Need-same-length
 same-length c = search needs
 

@@ -7,27 +7,21 @@ use Rattle.steps.proofs.switches.open_group.Reads as reads
 use Rattle.steps.proofs.switches.open_group.Lts as lts
 use Rattle.steps.proofs.labels.new_label.Reads as new-label-reads
 
--- src/steps.rt:636:23
 enum-known-group : tie.Need-enum-known-group
 enum-known-group c = search needs
 
--- src/steps.rt:637:45
 enum-told : tie.Need-enum-told
 enum-told c = search needs
 
--- src/steps.rt:637:28
 new-label-requires : tie.Need-new-label-requires
 new-label-requires c κs = search needs
 
--- src/steps.rt:632:1
 returns : tie.Need-returns
 returns c = open-not _ _ _ _ _ (c .before .group .given .1)
 
--- src/steps.rt:632:1
 returns-2 : tie.Need-returns-2
 returns-2 c = open-new _ _ (c .before .before .before .before .enum-told .given .1) (c .before .before .new-label .ensures)
 
--- src/steps.rt:632:1
 same-length : tie.Need-same-length
 same-length c = search needs
 

@@ -6,11 +6,9 @@ use Rattle.steps.proofs.tags.bool_tag.Tie as tie
 use Rattle.steps.proofs.tags.bool_tag.Reads as reads
 use Rattle.steps.proofs.tags.bool_tag.Lts as lts
 
--- src/steps.rt:387:9
 returns : tie.Need-returns
 returns c = search needs
 
--- src/steps.rt:383:1
 returns-2 : tie.Need-returns-2
 returns-2 c = bool-other _ (c .if1 .left)
 

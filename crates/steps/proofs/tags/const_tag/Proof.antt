@@ -1,6 +1,6 @@
 use native.Mathlib.Omega.{arith}
 use Rattle.definitions.specs.Tag.{constTags}
-use Rattle.instr.proofs.TableLaws.{those, past}
+use Rattle.laws.proofs.Arms.{those, past-first}
 use Rattle.steps.proofs.LeafLaws.{const-i32, const-bool, const-at, const-past}
 use native.Mathlib.Omega.{arith}
 use borrow.Author.Needs.{needs}
@@ -71,7 +71,7 @@ returns-16 c = const-bool _ _ _ (c .before .match .keys16) (c .bool-tag .ensures
 
 returns-17 : tie.Need-returns-17
 unfolding those
-returns-17 c = const-past _ _ (past 16 _ (c .match .rest))
+returns-17 c = const-past _ _ (past-first 16 _ (c .match .rest))
 
 pub const-tag-spec : {M : Type 1} → statement M
 const-tag-spec = tie.close (tie.spec (λ c κs. search needs) (λ c κs. search needs) returns returns-2 returns-3 returns-4

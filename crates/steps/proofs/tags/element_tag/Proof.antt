@@ -6,11 +6,9 @@ use Rattle.steps.proofs.tags.element_tag.Tie as tie
 use Rattle.steps.proofs.tags.element_tag.Reads as reads
 use Rattle.steps.proofs.tags.element_tag.Lts as lts
 
--- src/steps.rt:352:9
 returns : tie.Need-returns
 returns c = element-static _ (c .if1 .taken)
 
--- src/steps.rt:348:1
 returns-2 : tie.Need-returns-2
 returns-2 c = element-dynamic _ (c .if1 .left)
 

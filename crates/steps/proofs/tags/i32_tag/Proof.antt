@@ -6,15 +6,12 @@ use Rattle.steps.proofs.tags.i32_tag.Tie as tie
 use Rattle.steps.proofs.tags.i32_tag.Reads as reads
 use Rattle.steps.proofs.tags.i32_tag.Lts as lts
 
--- src/steps.rt:373:1
 returns : tie.Need-returns
 returns c = search needs
 
--- src/steps.rt:373:1
 returns-2 : tie.Need-returns-2
 returns-2 c = search needs
 
--- src/steps.rt:373:1
 returns-3 : tie.Need-returns-3
 returns-3 c = i32-other _ (c .match .rest .0 .1) (c .match .rest .1)
 

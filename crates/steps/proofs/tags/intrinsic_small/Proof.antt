@@ -1,7 +1,7 @@
 use mathlib.Core.Path.{refl}
 use native.Mathlib.Omega.{arith}
 use Rattle.definitions.specs.Tag.{intrinsics, intrinsicOf}
-use Rattle.instr.proofs.TableLaws.{those, others}
+use Rattle.laws.proofs.Arms.{those, others}
 use Rattle.steps.proofs.LeafLaws.{hasSmall, small-other}
 use native.Mathlib.Omega.{arith}
 use Rattle.steps.proofs.tags.intrinsic_small.Statement.{statement}

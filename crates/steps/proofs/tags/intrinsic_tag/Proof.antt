@@ -1,5 +1,5 @@
 use Rattle.definitions.specs.Tag.{intrinsics, intrinsicOf}
-use Rattle.instr.proofs.TableLaws.{those, past}
+use Rattle.laws.proofs.Arms.{those, past-first}
 use Rattle.steps.proofs.LeafLaws.{intrinsic-past}
 use Rattle.steps.proofs.tags.intrinsic_tag.Statement.{statement}
 use Rattle.steps.proofs.tags.intrinsic_tag.Tie as tie
@@ -142,7 +142,7 @@ returns-34 c = rw (c .match .keys34)
 
 returns-35 : tie.Need-returns-35
 unfolding those
-returns-35 c = intrinsic-past _ (past 34 _ (c .match .rest))
+returns-35 c = intrinsic-past _ (past-first 34 _ (c .match .rest))
 
 pub intrinsic-tag-spec : {M : Type 1} → statement M
 intrinsic-tag-spec = tie.close (tie.spec returns returns-2 returns-3 returns-4 returns-5 returns-6 returns-7 returns-8

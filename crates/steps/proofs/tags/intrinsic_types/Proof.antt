@@ -1,5 +1,5 @@
 use Rattle.definitions.specs.Tag.{intrinsics, intrinsicOf}
-use Rattle.instr.proofs.TableLaws.{those, others}
+use Rattle.laws.proofs.Arms.{those, others}
 use Rattle.steps.proofs.LeafLaws.{untypedCode, types-other}
 use Rattle.steps.proofs.tags.intrinsic_types.Statement.{statement}
 use Rattle.steps.proofs.tags.intrinsic_types.Tie as tie

@@ -7,22 +7,18 @@ use Rattle.steps.proofs.tags.local_tag.Tie as tie
 use Rattle.steps.proofs.tags.local_tag.Reads as reads
 use Rattle.steps.proofs.tags.local_tag.Lts as lts
 
--- src/steps.rt:357:1
 returns : tie.Need-returns
 unfolding localTag
 returns c = local-is _ 0 (c .match .keys1)
 
--- src/steps.rt:357:1
 returns-2 : tie.Need-returns-2
 unfolding localTag
 returns-2 c = local-is _ 1 (c .match .keys2)
 
--- src/steps.rt:357:1
 returns-3 : tie.Need-returns-3
 unfolding localTag
 returns-3 c = local-is _ 2 (c .match .keys3)
 
--- src/steps.rt:357:1
 returns-4 : tie.Need-returns-4
 returns-4 c = local-other _ (c .match .rest .0 .0 .1) (c .match .rest .0 .1) (c .match .rest .1)
 

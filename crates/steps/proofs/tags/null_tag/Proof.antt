@@ -6,11 +6,9 @@ use Rattle.steps.proofs.tags.null_tag.Tie as tie
 use Rattle.steps.proofs.tags.null_tag.Reads as reads
 use Rattle.steps.proofs.tags.null_tag.Lts as lts
 
--- src/steps.rt:343:9
 returns : tie.Need-returns
 returns c = null-none _ (c .if1 .taken)
 
--- src/steps.rt:339:1
 returns-2 : tie.Need-returns-2
 returns-2 c = null-some _ (c .if1 .left)
 
