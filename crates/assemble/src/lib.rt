@@ -17,7 +17,7 @@ use instr::records::Record;
 use ir::Class;
 use ir::ReadUnit;
 use ir::Refusal;
-use nodes::assemble_run;
+use nodes::items;
 use steps::BlockSpan;
 use steps::Counters;
 use steps::Target;
@@ -46,7 +46,7 @@ fn real_walk(s: &[u8], out: &mut [u8], marks: &mut [u32]) -> Walk
         returns: returns,
     };
     let end = s.len();
-    assemble_run(s, 10, end, 200, Class::Statement, span, w, out, marks)
+    items(s, 10, end, 200, Class::Statement, span, w, out, marks)
 }
 
 // The same with empty buffers: it writes nothing.

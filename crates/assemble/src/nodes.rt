@@ -99,11 +99,11 @@ fn assemble(
     let below = depth - 1;
     match kind {
         stmt::EXPR => node(s, at + 5, stop, below, Expression, span, w, out, marks),
-        stmt::BLOCK => assemble_run(s, at + 9, stop, below, Statement, span, w, out, marks),
-        stmt::WHILE => while_loop(s, at, end, depth, span, w, out, marks),
+        stmt::BLOCK => items(s, at + 9, stop, below, Statement, span, w, out, marks),
+        stmt::WHILE => repeat(s, at, end, depth, span, w, out, marks),
         stmt::BRANCHES => branches(s, at, end, depth, span, w, out, marks),
         stmt::SWITCH => switch(s, at, end, depth, span, w, out, marks),
-        stmt::INIT_ARRAY => init_array(s, at, end, depth, span, w, out, marks),
+        stmt::INIT_ARRAY => array(s, at, end, depth, span, w, out, marks),
         stmt::INIT_DEFAULT => init_default(s, at, w, out),
         stmt::BREAK => {
             let target = span.break_target;
@@ -113,7 +113,7 @@ fn assemble(
             let target = span.continue_target;
             jump_to(w, 11, at, target, out)
         }
-        stmt::RETURN => return_stmt(s, at, end, depth, span, w, out, marks),
+        stmt::RETURN => ret(s, at, end, depth, span, w, out, marks),
         _ => w,
     }
 }
@@ -138,7 +138,7 @@ fn assemble_expr(
     let below = depth - 1;
     match kind {
         expr::FIELD => field(s, at, end, depth, span, w, out, marks),
-        expr::CONDITIONAL => conditional(s, at, end, depth, span, w, out, marks),
+        expr::CONDITIONAL => ternary(s, at, end, depth, span, w, out, marks),
         expr::FREE_CALL => emit_call(s, at + 5, stop, below, span, at, w, out, marks),
         expr::STATIC_CALL => {
             let exit = labels_of(w);
@@ -151,7 +151,7 @@ fn assemble_expr(
         _ => {
             let first = parts_at(s, at, stop);
             let w1 = head(s, at, end, depth, w, out);
-            assemble_run(s, first, stop, below, Expression, span, w1, out, marks)
+            items(s, first, stop, below, Expression, span, w1, out, marks)
         }
     }
 }
@@ -191,7 +191,7 @@ fn field(
 }
 
 // Conditional.
-fn conditional(
+fn ternary(
     s: &[u8],
     at: usize,
     end: usize,
@@ -284,7 +284,7 @@ fn closure(
     let w5 = new_label(w4, at, marks);
     let w6 = invoke(w5, tag::INVOKE_VIRTUAL, exit, line, 0, name, out);
     let args = second + 10;
-    let w7 = assemble_run(s, args, stop, below, Expression, span, w6, out, marks);
+    let w7 = items(s, args, stop, below, Expression, span, w6, out, marks);
     let w8 = plain(w7, tag::PARAM_END, 0, 0, out);
     mark_label(w8, exit, marks)
 }
@@ -376,7 +376,7 @@ fn arg(
 }
 
 // Nodes that fill the bytes from `at` to `end`: a block, or expressions.
-pub fn assemble_run(
+pub fn items(
     s: &[u8],
     at: usize,
     end: usize,
@@ -391,17 +391,17 @@ pub fn assemble_run(
     requires { ⌜ (at ≤ end) × (end ≤ length (now s)) ⌝ }
     ensures { λ r. ⌜ Did (fillCode class depth (now (s .entry)) end at (spanOf span)) w (now (out .entry)) (now (marks .entry)) r (now (out .exit)) (now (marks .exit)) ⌝ }
 {
-    let mut i = at;
+    let mut item = at;
     let mut v = w;
-    while i < end {
-        v = node(s, i, end, depth, class, span, v, out, marks);
-        i = end_of(s, i);
+    while item < end {
+        v = node(s, item, end, depth, class, span, v, out, marks);
+        item = end_of(s, item);
     }
     v
 }
 
 // While.
-fn while_loop(
+fn repeat(
     s: &[u8],
     at: usize,
     end: usize,
@@ -428,7 +428,7 @@ fn while_loop(
     let w4 = jump(w3, tag::JUMP_IF_FALSE, finish, out);
     let w5 = node(s, first, stop, below, Expression, span, w4, out, marks);
     let inner = in_loop(start, finish, span);
-    let w6 = assemble_run(s, second + 4, stop, below, Statement, inner, w5, out, marks);
+    let w6 = items(s, second + 4, stop, below, Statement, inner, w5, out, marks);
     let w7 = jump(w6, tag::JUMP, start, out);
     mark_label(w7, finish, marks)
 }
@@ -458,7 +458,7 @@ fn branches(
     let w2 = new_label(w1, at, marks);
     let w3 = arms(s, at + 9, list, below, span, at, next, exit, w2, out, marks);
     let there = wide(s[list]);
-    let w4 = default_block(s, list + 1, stop, below, span, there, w3, out, marks);
+    let w4 = default(s, list + 1, stop, below, span, there, w3, out, marks);
     mark_label(w4, exit, marks)
 }
 
@@ -514,13 +514,13 @@ fn arm(
     let third = end_of(s, second);
     let w1 = jump(w, tag::JUMP_IF_FALSE, next, out);
     let w2 = node(s, at, end, depth, Expression, span, w1, out, marks);
-    let w3 = assemble_run(s, second + 4, third, depth, Statement, span, w2, out, marks);
+    let w3 = items(s, second + 4, third, depth, Statement, span, w2, out, marks);
     let w4 = jump(w3, tag::JUMP, exit, out);
     mark_label(w4, next, marks)
 }
 
 // The default block, where its mark is 1.
-fn default_block(
+fn default(
     s: &[u8],
     at: usize,
     end: usize,
@@ -538,7 +538,7 @@ fn default_block(
     if there == 0 {
         return w;
     }
-    assemble_run(s, at + 4, end, depth, Statement, span, w, out, marks)
+    items(s, at + 4, end, depth, Statement, span, w, out, marks)
 }
 
 // Switch.
@@ -595,14 +595,14 @@ fn inside(
     let there = wide(s[at + 4]);
     let n = count_arms(s, at + 9, list, depth);
     if is_mid(there, index, n) {
-        return mid_default(s, at, end, depth, span, site, first, n, w, out, marks);
+        return mid(s, at, end, depth, span, site, first, n, w, out, marks);
     }
     let w1 = cases(s, at + 9, list, depth, span, site, first, w, out, marks);
     if there == 0 {
         return w1;
     }
     let w2 = plain(w1, tag::SWITCH_DEFAULT, 0, 0, out);
-    assemble_run(s, list + 4, end, depth, Statement, span, w2, out, marks)
+    items(s, list + 4, end, depth, Statement, span, w2, out, marks)
 }
 
 // Cases in groups: each block after its matcher.
@@ -666,13 +666,13 @@ fn case(
     let w2 = node(s, at, end, depth, Expression, span, w1, out, marks);
     if ends {
         let w3 = mark_label(w2, body, marks);
-        return assemble_run(s, second + 4, third, depth, Statement, span, w3, out, marks);
+        return items(s, second + 4, third, depth, Statement, span, w3, out, marks);
     }
     w2
 }
 
 // The same where the default stands before one of the n cases: all matchers, then all blocks.
-fn mid_default(
+fn mid(
     s: &[u8],
     at: usize,
     end: usize,
@@ -776,9 +776,9 @@ fn bodies(
         let third = end_of(s, second);
         let here = is_same(k, index);
         v = mark_if(v, here, label + n, marks);
-        v = default_block(s, end, stop, depth, span, here, v, out, marks);
+        v = default(s, end, stop, depth, span, here, v, out, marks);
         v = mark_label(v, label + k, marks);
-        v = assemble_run(s, second + 4, third, depth, Statement, span, v, out, marks);
+        v = items(s, second + 4, third, depth, Statement, span, v, out, marks);
         k += 1;
         i = third;
     }
@@ -786,7 +786,7 @@ fn bodies(
 }
 
 // InitArray.
-fn init_array(
+fn array(
     s: &[u8],
     at: usize,
     end: usize,
@@ -846,7 +846,7 @@ fn elements(
 }
 
 // Return.
-fn return_stmt(
+fn ret(
     s: &[u8],
     at: usize,
     end: usize,

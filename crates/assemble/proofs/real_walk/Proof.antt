@@ -6,7 +6,7 @@ use Rattle.assemble.proofs.real_walk.Statement.{statement}
 use Rattle.assemble.proofs.real_walk.Tie as tie
 use Rattle.assemble.proofs.real_walk.Reads as reads
 use Rattle.assemble.proofs.real_walk.Lts as lts
-use Rattle.assemble.proofs.nodes.assemble_run.Reads as assemble-run-reads
+use Rattle.assemble.proofs.nodes.items.Reads as items-reads
 use Rattle.instr.proofs.numbers.wide.Reads as wide-reads
 
 shared-slice-read-wide : tie.Need-shared-slice-read-wide
@@ -15,11 +15,11 @@ shared-slice-read-wide c = let u = unit-here _ (c .before .before .before .befor
 wide-requires : tie.Need-wide-requires
 wide-requires c κs = search needs
 
-assemble-run-requires : tie.Need-assemble-run-requires
-assemble-run-requires c κs = let u = unit-here _ (c .before .before .before .before .before .before .before .pre) in (u .reads, (u .head, omega arith))
+items-requires : tie.Need-items-requires
+items-requires c κs = let u = unit-here _ (c .before .before .before .before .before .before .before .pre) in (u .reads, (u .head, omega arith))
 
 returns : tie.Need-returns
-returns c = real-did _ _ _ _ _ _ _ (c .before .before .before .before .before .before .before .before .before .before .before .before .pre) (c .before .before .before .before .before .before .before .wide .ensures .0) (c .before .before .before .before .assemble-run .ensures)
+returns c = real-did _ _ _ _ _ _ _ (c .before .before .before .before .before .before .before .before .before .before .before .before .pre) (c .before .before .before .before .before .before .before .wide .ensures .0) (c .before .before .before .before .items .ensures)
 
 same-length : tie.Need-same-length
 same-length c = search needs
@@ -28,5 +28,5 @@ same-length-2 : tie.Need-same-length-2
 same-length-2 c = search needs
 
 pub real-walk-spec : {M : Type 1} → statement M
-real-walk-spec = tie.close (tie.spec shared-slice-read-wide wide-requires assemble-run-requires same-length same-length-2
+real-walk-spec = tie.close (tie.spec shared-slice-read-wide wide-requires items-requires same-length same-length-2
     returns)
