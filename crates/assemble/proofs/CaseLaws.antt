@@ -1,13 +1,13 @@
 -- Groups of cases. Assumes nothing.
-use Prim.Native.Nat.{ℕ, zero, suc, _+_, _-_, _^_, _≤_, _<_}
+use Prim.Native.Nat.{ℕ, suc, _+_, _-_, _^_, _≤_, _<_}
 use mathlib.Core.Path.{_≡_, refl, sym, ap, _∙_}
 use mathlib.Core.Bool.{Bool, true, false, cond, _||_}
 use mathlib.Core.List.{List, [], _∷_}
 use mathlib.Core.Option.{Option, none, some}
 use native.Mathlib.Omega.{arith}
-use lib.Dec.{ltb, leb, eqb}
+use lib.Dec.{ltb, leb}
 use borrow.Author.Tests.{ltb-true, ltb-false, leb-true, leb-false, le-leb, lt-leb}
-use Rattle.definitions.specs.Answer.{ok, Result, made, refusal, onward}
+use Rattle.definitions.specs.Answer.{ok, onward}
 use Rattle.definitions.specs.Tag.{SwitchLabel, Jump, JumpIfFalse}
 use Rattle.definitions.specs.Tree.{Expr, Stmt, Block, blockOf, casesOf, branchesOf, exprsOf}
 use Rattle.definitions.specs.Read.{Parser, filling, arm, parseExpr, parseStmt}
@@ -16,12 +16,12 @@ use Rattle.definitions.specs.Lower.{BlockSpan, jump, jumps, lowerBranches, lowe
 use Rattle.ir.specs.Places.{endOf}
 use Rattle.ir.proofs.Inversion.{fill-some, fill-none, stmt-moves, expr-moves, expr-at}
 use Rattle.ir.proofs.StmtPlaces.{arm-at, arm-moves}
-use Rattle.steps.specs.Running.{Cells, run}
+use Rattle.steps.specs.Running.{run}
 use Rattle.steps.specs.Walked.{exprCode, exprsFrom, elementCode, Emitted, Accepted, armsFrom, ran, labelsOf, targetOf, codeOf, armCode, ending, groupLabel, openCode, Labelled, Did}
 use Rattle.steps.specs.declared.Target.{Target}
 use Rattle.steps.specs.declared.Target.the-variants.{Nowhere, Label}
 use Rattle.steps.specs.declared.Walk.{Walk}
-use Rattle.laws.proofs.Results.{onward-assoc, onward-made}
+use Rattle.laws.proofs.Results.{onward-made}
 use Rattle.steps.proofs.StepLaws.{labelled, emitted, recode, SameRun, same-assoc, same-right, same-on, same-done}
 use Rattle.steps.proofs.RunLaws.{Goes, goes-same, goes-on, one-step, fresh-step, renamed, goes-last, goes-end, Rest, rest-start, rest-next, rest-end, Turn, turn}
 use Rattle.assemble.proofs.StmtCode.{ArmHere, arm-here}

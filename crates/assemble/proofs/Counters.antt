@@ -6,7 +6,7 @@ use mathlib.Core.List.{List, [], _∷_, _++_}
 use native.Mathlib.Omega.{arith}
 use lib.Dec.{ltb}
 use lib.ListN.{length, take}
-use Rattle.definitions.specs.Answer.{Result, made, refusal, onward, checked, ok}
+use Rattle.definitions.specs.Answer.{Result, made, onward, checked, ok}
 use Rattle.definitions.specs.Tree.{Script}
 use Rattle.definitions.specs.Read.{parseUnit}
 use Rattle.definitions.specs.Code.{Action, new, mark, emit, refuse, Code, done, act, _then_, label, State, labelLimit, start, step}

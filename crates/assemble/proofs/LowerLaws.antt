@@ -1,21 +1,20 @@
 -- The whole of `lower`: from what the reader, the dry walk and the real one ensure. Assumes nothing.
-use Prim.Native.Nat.{ℕ, _+_, _-_, _*_, _^_, _≤_, _<_}
+use Prim.Native.Nat.{ℕ, _+_, _*_, _≤_, _<_}
 use mathlib.Core.Path.{_≡_, refl, sym, ap, _∙_}
 use mathlib.Core.List.{List, [], _∷_, _++_, append-assoc}
-use mathlib.Core.Bool.{Bool, true, false}
 use native.Mathlib.Omega.{arith}
 use lib.Dec.{leb}
-use lib.ListN.{length, getD, take, drop, length-append, length-drop}
+use lib.ListN.{length, getD, take, drop, length-append}
 use lib.Seq.{length-take-le, drop-at}
 use borrow.Author.Tests.{le-leb, lt-leb}
 use borrow.Rule.Slice.PartMut.{putMid, put-same}
 use Rattle.definitions.specs.Answer.{Answer, ok, refused, Result, made, refusal, onward, checked}
 use Rattle.definitions.specs.Bytes.{bytes}
 use Rattle.definitions.specs.Instr.{Instr}
-use Rattle.definitions.specs.Tree.{Script, blockOf}
+use Rattle.definitions.specs.Tree.{Script}
 use Rattle.definitions.specs.Read.{filling, parseStmt, parseUnit}
 use Rattle.definitions.specs.Code.{Code, State}
-use Rattle.definitions.specs.Lower.{lowerBlock, outside}
+use Rattle.definitions.specs.Lower.{outside}
 use Rattle.definitions.specs.Lower as Lower
 use Rattle.definitions.specs.Listing.{listingLength, recordsBytes, listingBytes, recordLimit}
 use Rattle.definitions.specs.Stage.{labelled, lowered, lowerInto, over}

@@ -1,5 +1,5 @@
 -- Counting cases; a switch whose default stands among its cases. Assumes nothing.
-use Prim.Native.Nat.{ℕ, zero, suc, _+_, _-_, _^_, _≤_, _<_}
+use Prim.Native.Nat.{ℕ, zero, suc, _+_, _-_, _≤_, _<_}
 use mathlib.Core.Path.{_≡_, refl, sym, ap, _∙_}
 use mathlib.Core.Bool.{Bool, true, false, cond, not, _&&_}
 use mathlib.Core.List.{List, [], _∷_}
@@ -7,25 +7,25 @@ use mathlib.Core.Option.{none}
 use native.Mathlib.Omega.{arith}
 use lib.Dec.{eqb, ltb, leb}
 use lib.ListN.{length, getD}
-use borrow.Author.Tests.{le-leb, ne-eqb, eq-eqb, ltb-true, ltb-false, eqb-true, eqb-false}
-use Rattle.definitions.specs.Answer.{Answer, ok, refused, Result, onward}
+use borrow.Author.Tests.{le-leb, ltb-true, ltb-false, eqb-true, eqb-false}
+use Rattle.definitions.specs.Answer.{Answer, ok, refused, onward}
 use Rattle.definitions.specs.Bytes.{number}
 use Rattle.definitions.specs.Tag.{SwitchDefault, Jump}
 use Rattle.definitions.specs.Tree.{Expr, Block, Default, absent, present, blockOf, casesOf, lengthCases, isPresent}
-use Rattle.definitions.specs.Read.{Parser, filling, arm, blockIf, give, parseExpr, parseStmt}
+use Rattle.definitions.specs.Read.{blockIf, give}
 use Rattle.definitions.specs.Code.{Code, new, mark, act, done, label, many, _then_}
-use Rattle.definitions.specs.Lower.{BlockSpan, instr, jump, lowerStmt, lowerBlock, lowerMatchers, lowerBodies, lowerBlocks, lowerCases, lowerDefault, lowerLast, midDefault}
+use Rattle.definitions.specs.Lower.{BlockSpan, instr, jump, lowerStmt, lowerBlock, lowerMatchers, lowerBodies, lowerCases, lowerDefault, lowerLast, midDefault}
 use Rattle.ir.specs.Places.{endOf}
 use Rattle.ir.specs.declared.Class.the-variants.{Statement}
 use Rattle.ir.proofs.Inversion.{fill-none}
-use Rattle.ir.proofs.StmtPlaces.{arm-at, arm-moves}
-use Rattle.steps.specs.Running.{Cells, run, move}
-use Rattle.steps.specs.Walked.{Accepted, Ended, DefaultHere, Cased, armsFrom, casesFrom, listOf, codeOf, ran, labelsOf, defaultFrom, defaultOf, defaultAnswer, midCode, insideCode, fillCode, markIf, sameAs, Did, Emitted, Labelled}
+use Rattle.ir.proofs.StmtPlaces.{arm-moves}
+use Rattle.steps.specs.Running.{run, move}
+use Rattle.steps.specs.Walked.{Accepted, DefaultHere, Cased, armsFrom, casesFrom, listOf, codeOf, ran, labelsOf, defaultFrom, defaultOf, defaultAnswer, midCode, insideCode, fillCode, markIf, sameAs, Did, Emitted, Labelled}
 use Rattle.steps.specs.declared.Walk.{Walk}
 use Rattle.laws.proofs.Results.{onward-assoc, onward-same}
-use Rattle.steps.proofs.StepLaws.{fresh-same, labelled, emitted, recode, both, nothing, SameRun, same-assoc, same-right, same-on, same-done}
-use Rattle.steps.proofs.RunLaws.{Goes, goes-same, goes-on, one-step, renamed, goes-last, goes-end, Rest, rest-start, rest-next, rest-end, Turn, turn, listed}
-use Rattle.assemble.proofs.StmtCode.{ArmHere, arm-here, default-code, no-default-code, some-default, no-default, default-some, block-code}
+use Rattle.steps.proofs.StepLaws.{fresh-same, labelled, emitted, recode, both, nothing, SameRun}
+use Rattle.steps.proofs.RunLaws.{Goes, goes-on, one-step, renamed, goes-last, goes-end, Rest, rest-next, rest-end, Turn, turn, listed}
+use Rattle.assemble.proofs.StmtCode.{ArmHere, arm-here, no-default-code, some-default, default-some, block-code}
 use Rattle.assemble.proofs.CaseLaws.{skip-step, armOf, arm-ends, arm-code-is, bodiesFrom, bodies-below, bodies-at, bodies-above}
 
 -- 1. Counting

@@ -1,15 +1,15 @@
 -- The walk's running against the definition's. Assumes nothing.
-use Prim.Native.Nat.{ℕ, zero, suc, _+_, _-_, _*_, _%_, _^_, _≤_, _<_}
+use Prim.Native.Nat.{ℕ, _+_, _-_, _*_, _%_, _^_, _≤_, _<_}
 use mathlib.Core.Path.{_≡_, refl, sym, ap, _∙_, subst}
-use mathlib.Core.Bool.{Bool, true, false, cond}
+use mathlib.Core.Bool.{Bool, true, false}
 use mathlib.Core.List.{List, [], _∷_, _++_, append-nil, append-assoc}
 use native.Mathlib.Omega.{arith}
-use lib.Dec.{ltb, leb}
+use lib.Dec.{ltb}
 use lib.ListN.{length, set, take, drop, length-append, length-set, length-drop, take-append-drop}
 use lib.Seq.{length-take-le, take-at, drop-append-add, drop-drop, set-append-left, set-append-seam}
 use Rattle.steps.proofs.StepLaws.{set-out}
 use Rattle.definitions.specs.Bytes.{bytes}
-use borrow.Author.Tests.{lt-ltb, le-ltb, lt-leb, le-leb, ltb-true, ltb-false}
+use borrow.Author.Tests.{le-leb, ltb-true, ltb-false}
 use Rattle.definitions.specs.Instr.{Instr, size, recordBytes}
 use Rattle.definitions.specs.Listing.{listingLength, recordsBytes, recordLimit}
 use Rattle.definitions.specs.Code.{Action, new, mark, emit, refuse, Code, done, act, _then_, label, State, step, execute, unmarked, labelLimit}

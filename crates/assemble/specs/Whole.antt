@@ -3,7 +3,6 @@ use Prim.Native.Nat.{ℕ}
 use mathlib.Core.List.{List}
 use lib.ListN.{length}
 use Rattle.definitions.specs.Answer.{Result, made, refusal}
-use Rattle.definitions.specs.Tree.{Script}
 use Rattle.definitions.specs.Read.{parseUnit}
 use Rattle.definitions.specs.Code.{Code, State}
 use Rattle.definitions.specs.Lower as Lower

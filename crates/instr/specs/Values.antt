@@ -1,5 +1,5 @@
 -- The code's rows, records and answers, in the words of the definitions.
-use Prim.Native.Nat.{ℕ, zero, suc, _+_, _*_, _<_, _^_}
+use Prim.Native.Nat.{ℕ, zero, suc, _+_, _*_}
 use mathlib.Core.Bool.{Bool, cond, _&&_}
 use mathlib.Core.List.{List, [], _∷_, _++_}
 use lib.Dec.{leb, ltb}

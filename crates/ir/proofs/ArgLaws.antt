@@ -15,9 +15,9 @@ use types.Run.{OneOf}
 use Rattle.ir.proofs.Arg.{the-type as arg-type}
 use Rattle.definitions.specs.Answer.{ok}
 use Rattle.definitions.specs.Bytes.{number}
-use Rattle.definitions.specs.Tree.{Expr, intrinsic, exprsOf}
+use Rattle.definitions.specs.Tree.{Expr, intrinsic, exprsOf, placeOf}
 use Rattle.definitions.specs.Lower.{isPrvalue, onePrvalue, isFlagged}
-use Rattle.definitions.specs.Read.{Parser, _>>=_, give, unknownKind, pick, filling, asNop, asConst, asNull, asNewInstance, asConstruct, asAssign, asConditional, asDynCast, asFreeCall, asStaticCall, asInstanceCall, asClosureCall, exprKinds, exprBody, parseExpr}
+use Rattle.definitions.specs.Read.{Parser, _>>=_, give, unknownKind, pick, filling, asNop, asConst, asNull, asNewInstance, asConstruct, asAssign, asField, asIndex, asConditional, asDynCast, asLocal, asIntrinsic, asFreeCall, asStaticCall, asInstanceCall, asClosureCall, exprKinds, exprBody, parseExpr}
 use Rattle.ir.specs.Places.{endOf}
 use Rattle.ir.specs.Args.{intrinsicAt, placeKind, argAt, notPlace, prvalueAt, flaggedHead, flaggedAt}
 use Rattle.ir.specs.declared.Arg.{Arg}
@@ -25,7 +25,7 @@ use Rattle.ir.specs.declared.Arg.the-variants.{AsRef, Place, Value}
 use Rattle.ir.proofs.Inversion.{impossible, refused-not-ok, bind-ok, give-ok, expr-ok, expr-at, expr-moves, fill-some, fill-none}
 use Rattle.ir.proofs.ExprPlaces.{field-at, index-at, local-at, intrinsic-at}
 
--- 1. The kinds whose head says nothing
+-- 1. Every kind: its place is where it is read, and the head of most says nothing
 
 -- every value that a parser gives
 abbrev Always : {A : Type 0} → (A → Type 0) → Parser A → Type 0
@@ -54,45 +54,46 @@ pick-each P (p ∷ ps) b at (suc k) m e n h r =
 abbrev Plain : Expr → Type 0
 Plain e = (isPrvalue e ≡ true) × (isFlagged e ≡ false)
 
-abbrev PlainBut : ℕ → Expr → Type 0
-PlainBut k e = (k ≡ 7 → ⊥) → (k ≡ 8 → ⊥) → (k ≡ 11 → ⊥) → (k ≡ 12 → ⊥) → Plain e
+-- of what kind k gives at `at`
+abbrev Says : (at k : ℕ) → Expr → Type 0
+Says at k e = (placeOf e ≡ at) × ((k ≡ 7 → ⊥) → (k ≡ 8 → ⊥) → (k ≡ 11 → ⊥) → (k ≡ 12 → ⊥) → Plain e)
 
-each-kind : (s : List ℕ) (child : ℕ → Parser Expr) (at end : ℕ) → Each PlainBut (exprKinds s child at end) 0
-unfolding exprKinds unknownKind asNop asConst asNull asNewInstance asConstruct asAssign asConditional asDynCast asFreeCall asStaticCall asInstanceCall asClosureCall isPrvalue isFlagged
+each-kind : (s : List ℕ) (child : ℕ → Parser Expr) (at end : ℕ) → Each (Says at) (exprKinds s child at end) 0
+unfolding exprKinds unknownKind asNop asConst asNull asNewInstance asConstruct asAssign asField asIndex asConditional asDynCast asLocal asIntrinsic asFreeCall asStaticCall asInstanceCall asClosureCall isPrvalue isFlagged placeOf
 each-kind s child at end = (
   λ m a n e. refused-not-ok e,
   (
-    at-last (PlainBut 1) _ (λ _ _ _ _. (refl, refl)),
+    at-last (Says at 1) _ (refl, λ _ _ _ _. (refl, refl)),
     (
-      after-step (PlainBut 2) _ _ (λ _. after-step (PlainBut 2) _ _ (λ _. at-last (PlainBut 2) _ (λ _ _ _ _. (refl, refl)))),
+      after-step (Says at 2) _ _ (λ _. after-step (Says at 2) _ _ (λ _. at-last (Says at 2) _ (refl, λ _ _ _ _. (refl, refl)))),
       (
-        after-step (PlainBut 3) _ _ (λ _. at-last (PlainBut 3) _ (λ _ _ _ _. (refl, refl))),
+        after-step (Says at 3) _ _ (λ _. at-last (Says at 3) _ (refl, λ _ _ _ _. (refl, refl))),
         (
-          after-step (PlainBut 4) _ _ (λ _. at-last (PlainBut 4) _ (λ _ _ _ _. (refl, refl))),
+          after-step (Says at 4) _ _ (λ _. at-last (Says at 4) _ (refl, λ _ _ _ _. (refl, refl))),
           (
-            after-step (PlainBut 5) _ _ (λ _. after-step (PlainBut 5) _ _ (λ _. at-last (PlainBut 5) _ (λ _ _ _ _. (refl, refl)))),
+            after-step (Says at 5) _ _ (λ _. after-step (Says at 5) _ _ (λ _. at-last (Says at 5) _ (refl, λ _ _ _ _. (refl, refl)))),
             (
-              after-step (PlainBut 6) _ _ (λ _. after-step (PlainBut 6) _ _ (λ _. at-last (PlainBut 6) _ (λ _ _ _ _. (refl, refl)))),
+              after-step (Says at 6) _ _ (λ _. after-step (Says at 6) _ _ (λ _. at-last (Says at 6) _ (refl, λ _ _ _ _. (refl, refl)))),
               (
-                (λ m a n e z _ _ _. absurd (z refl)),
+                after-step (Says at 7) _ _ (λ _. after-step (Says at 7) _ _ (λ _. after-step (Says at 7) _ _ (λ _. at-last (Says at 7) _ (refl, λ z _ _ _. absurd (z refl))))),
                 (
-                  (λ m a n e _ z _ _. absurd (z refl)),
+                  after-step (Says at 8) _ _ (λ _. after-step (Says at 8) _ _ (λ _. after-step (Says at 8) _ _ (λ _. after-step (Says at 8) _ _ (λ _. at-last (Says at 8) _ (refl, λ _ z _ _. absurd (z refl)))))),
                   (
-                    after-step (PlainBut 9) _ _ (λ _. after-step (PlainBut 9) _ _ (λ _. after-step (PlainBut 9) _ _ (λ _. at-last (PlainBut 9) _ (λ _ _ _ _. (refl, refl))))),
+                    after-step (Says at 9) _ _ (λ _. after-step (Says at 9) _ _ (λ _. after-step (Says at 9) _ _ (λ _. at-last (Says at 9) _ (refl, λ _ _ _ _. (refl, refl))))),
                     (
-                      after-step (PlainBut 10) _ _ (λ _. after-step (PlainBut 10) _ _ (λ _. after-step (PlainBut 10) _ _ (λ _. at-last (PlainBut 10) _ (λ _ _ _ _. (refl, refl))))),
+                      after-step (Says at 10) _ _ (λ _. after-step (Says at 10) _ _ (λ _. after-step (Says at 10) _ _ (λ _. at-last (Says at 10) _ (refl, λ _ _ _ _. (refl, refl))))),
                       (
-                        (λ m a n e _ _ z _. absurd (z refl)),
+                        after-step (Says at 11) _ _ (λ _. after-step (Says at 11) _ _ (λ _. at-last (Says at 11) _ (refl, λ _ _ z _. absurd (z refl)))),
                         (
-                          (λ m a n e _ _ _ z. absurd (z refl)),
+                          after-step (Says at 12) _ _ (λ _. after-step (Says at 12) _ _ (λ _. after-step (Says at 12) _ _ (λ _. after-step (Says at 12) _ _ (λ _. after-step (Says at 12) _ _ (λ _. at-last (Says at 12) _ (refl, λ _ _ _ z. absurd (z refl))))))),
                           (
-                            after-step (PlainBut 13) _ _ (λ _. after-step (PlainBut 13) _ _ (λ _. at-last (PlainBut 13) _ (λ _ _ _ _. (refl, refl)))),
+                            after-step (Says at 13) _ _ (λ _. after-step (Says at 13) _ _ (λ _. at-last (Says at 13) _ (refl, λ _ _ _ _. (refl, refl)))),
                             (
-                              after-step (PlainBut 14) _ _ (λ _. after-step (PlainBut 14) _ _ (λ _. at-last (PlainBut 14) _ (λ _ _ _ _. (refl, refl)))),
+                              after-step (Says at 14) _ _ (λ _. after-step (Says at 14) _ _ (λ _. at-last (Says at 14) _ (refl, λ _ _ _ _. (refl, refl)))),
                               (
-                                after-step (PlainBut 15) _ _ (λ _. after-step (PlainBut 15) _ _ (λ _. after-step (PlainBut 15) _ _ (λ _. after-step (PlainBut 15) _ _ (λ _. at-last (PlainBut 15) _ (λ _ _ _ _. (refl, refl)))))),
+                                after-step (Says at 15) _ _ (λ _. after-step (Says at 15) _ _ (λ _. after-step (Says at 15) _ _ (λ _. after-step (Says at 15) _ _ (λ _. at-last (Says at 15) _ (refl, λ _ _ _ _. (refl, refl)))))),
                                 (
-                                  after-step (PlainBut 16) _ _ (λ _. after-step (PlainBut 16) _ _ (λ _. after-step (PlainBut 16) _ _ (λ _. after-step (PlainBut 16) _ _ (λ _. at-last (PlainBut 16) _ (λ _ _ _ _. (refl, refl)))))),
+                                  after-step (Says at 16) _ _ (λ _. after-step (Says at 16) _ _ (λ _. after-step (Says at 16) _ _ (λ _. after-step (Says at 16) _ _ (λ _. at-last (Says at 16) _ (refl, λ _ _ _ _. (refl, refl)))))),
                                   tt,
                                 ),
                               ),
@@ -155,11 +156,14 @@ module _ (s : List ℕ) (at : ℕ) where
       kind = as-ref-kind f t (eqb (getD s (at + 4) 0) 12) (placeKind (getD s (at + 4) 0)) refl h
 
 module _ (s : List ℕ) (at depth holder next : ℕ) (e : Expr) (r : parseExpr depth s holder at ≡ ok e next) where
-  plain : PlainBut (getD s (at + 4) 0) e
+  says : Says at (getD s (at + 4) 0) e
   unfolding exprBody
-  plain =
+  says =
       let i = expr-ok depth s holder at r in
-      rw (zero-add (getD s (at + 4) 0)) at (pick-each PlainBut (exprKinds s (parseExpr (depth - 1) s) at (endOf s at)) 0 at (getD s (at + 4) 0) (at + 5) e (endOf s at) (each-kind s (parseExpr (depth - 1) s) at (endOf s at)) (i .1 .reads))
+      rw (zero-add (getD s (at + 4) 0)) at (pick-each (Says at) (exprKinds s (parseExpr (depth - 1) s) at (endOf s at)) 0 at (getD s (at + 4) 0) (at + 5) e (endOf s at) (each-kind s (parseExpr (depth - 1) s) at (endOf s at)) (i .1 .reads))
+
+  pub place-is : placeOf e ≡ at
+  place-is = says .0
 
   is-12 : getD s (at + 4) 0 ≡ 12 → (isPrvalue e ≡ not (eqb (getD s (at + 5) 0) 29)) × ((eqb (getD s (at + 5) 0) 28 ≡ false) → isFlagged e ≡ false)
   unfolding isPrvalue isFlagged
@@ -184,7 +188,7 @@ module _ (s : List ℕ) (at depth holder next : ℕ) (e : Expr) (r : parseExpr d
       go false true c ea eb ec h z = impossible (cc)
       go false false true ea eb ec h z = impossible (cc)
       go false false false ea eb ec h z =
-          plain (eqb-false (getD s (at + 4) 0) 7 (sym ea)) (eqb-false (getD s (at + 4) 0) 8 (sym eb)) (eqb-false (getD s (at + 4) 0) 11 (sym ec)) z
+          says .1 (eqb-false (getD s (at + 4) 0) 7 (sym ea)) (eqb-false (getD s (at + 4) 0) 8 (sym eb)) (eqb-false (getD s (at + 4) 0) 11 (sym ec)) z
 
   -- the head says whether it is a prvalue, and that it is not flagged unless it is an AsRef call
   by-code : (a b : Bool) → a ≡ eqb (getD s (at + 5) 0) 28 → b ≡ eqb (getD s (at + 5) 0) 29

@@ -12,7 +12,7 @@ use Rattle.definitions.specs.Answer.{Answer, ok, refused, bind}
 use Rattle.definitions.specs.Bytes.{number}
 use Rattle.definitions.specs.Tag.{constWidths}
 use Rattle.definitions.specs.Tree.{Callee, Expr, Exprs, Stmt, exprsOf}
-use Rattle.definitions.specs.Read.{Parser, _>>=_, give, unsigned, byteBelow, markBytes, payload, callee, arguments, room, span, items, filling, run, ended, head, node, exprBody, stmtBody, parseExpr, parseStmt}
+use Rattle.definitions.specs.Read.{Parser, _>>=_, give, unsigned, byteBelow, markBytes, payload, callee, arguments, span, items, filling, run, ended, head, node, exprBody, stmtBody, parseExpr, parseStmt}
 pub use Rattle.laws.proofs.Inversion.{impossible, refused-not-ok, bind-ok, when-ok, give-ok, unsigned-is, unsigned-ok, span-is}
 use Rattle.ir.specs.Places.{endOf, ExprAt, StmtAt, RunAt, ByteAt, CallAt}
 

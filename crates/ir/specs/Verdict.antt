@@ -2,7 +2,7 @@
 use Prim.Native.Nat.{ℕ}
 use mathlib.Core.Bool.{true, false}
 use mathlib.Core.List.{List}
-use lib.Dec.{leb, ltb}
+use lib.Dec.{leb}
 use lib.ListN.{length}
 use Rattle.definitions.specs.Answer.{Answer, ok, refused}
 use Rattle.definitions.specs.Tree.{Callee, Expr, Exprs, Script}

@@ -9,7 +9,7 @@ use lib.Dec.{ltb}
 use lib.ListN.{length, getD, length-set, length-append, List·getD-append}
 use lib.Seq.{getD-set-same, getD-set-other}
 use borrow.Author.Tests.{ltb-true}
-use Rattle.definitions.specs.Answer.{Result, made, refusal, onward, checked}
+use Rattle.definitions.specs.Answer.{made, onward, checked}
 use Rattle.definitions.specs.Tree.{Script}
 use Rattle.definitions.specs.Code.{Action, new, mark, emit, refuse, Code, done, act, _then_, label, State, newLabel, markLabel, emitRecord, step, execute, start, unmarked, labelLimit}
 use Rattle.definitions.specs.Lower.{outside, codeOf, lower}

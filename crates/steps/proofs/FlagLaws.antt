@@ -1,117 +1,29 @@
 -- The flags of a call's arguments. Assumes nothing.
-use Prim.Native.Nat.{ℕ, zero, suc, _+_, _-_, _*_, _%_, _^_, _≤_, _<_}
+use Prim.Native.Nat.{ℕ, zero, suc, _+_, _*_, _%_, _^_, _≤_, _<_}
 use mathlib.Core.Path.{_≡_, refl, sym, ap, _∙_}
 use mathlib.Core.Bool.{Bool, true, false, cond, not, _||_}
 use mathlib.Core.List.{List, [], _∷_}
 use native.Mathlib.Omega.{arith}
 use lib.Dec.{ltb}
-use lib.ListN.{length, getD}
+use lib.ListN.{getD}
 use Rattle.definitions.specs.Answer.{ok}
 use Rattle.definitions.specs.Bytes.{number}
 use Rattle.definitions.specs.Instr.{recordBytes}
 use Rattle.definitions.specs.Tree.{Expr, Exprs, enil, econs, exprsOf, placeOf}
-use Rattle.definitions.specs.Read.{Parser, _>>=_, give, unknownKind, pick, asNop, asConst, asNull, asNewInstance, asConstruct, asAssign, asField, asIndex, asConditional, asDynCast, asLocal, asIntrinsic, asFreeCall, asStaticCall, asInstanceCall, asClosureCall, exprKinds, exprBody, parseExpr}
-use Rattle.definitions.specs.Code.{Code, act, emit, done, _then_}
+use Rattle.definitions.specs.Read.{_>>=_, parseExpr}
+use Rattle.definitions.specs.Code.{Code, _then_}
 use Rattle.definitions.specs.Tag.{InvokeStatic, InvokeVirtual}
 use Rattle.definitions.specs.Lower.{isFlagged, flagsOf, requireFlags, require, invoke, emitInvoke}
 use Rattle.ir.specs.Places.{endOf}
 use Rattle.ir.specs.Args.{flaggedAt}
-use Rattle.ir.proofs.ArgLaws.{flagged-read}
-use Rattle.ir.proofs.Inversion.{refused-not-ok, bind-ok, give-ok, expr-ok, expr-at, expr-moves, fill-none}
-use Rattle.steps.specs.Running.{put, move}
-use Rattle.steps.specs.Walked.{Accepted, listOf, exprsFrom, argsAt, calleeAt, Called, Emitted, Left, Did}
+use Rattle.ir.proofs.ArgLaws.{flagged-read, place-is}
+use Rattle.ir.proofs.Inversion.{expr-at, expr-moves, fill-none}
+use Rattle.steps.specs.Walked.{Accepted, listOf, exprsFrom, calleeAt, Emitted, Left}
 use Rattle.steps.specs.declared.Walk.{Walk}
 use Rattle.steps.proofs.StepLaws.{recode, emit-alike, bytes-cut}
 use Rattle.steps.proofs.RunLaws.{Goes, goes-start, goes-on, goes-end, one-step, renamed, Turn, turn, listed}
 
--- 1. The place of an expression is where it was read
-
-record Gives (at : ℕ) (p : Parser Expr) : Type 0 where
-  place : (m : ℕ) (e : Expr) (n : ℕ) → p m ≡ ok e n → placeOf e ≡ at
-
-given : (at : ℕ) (x : Expr) → placeOf x ≡ at → Gives at (give x)
-given at x h = record { place = λ m e n r. ap placeOf (give-ok x m r .0) ∙ h }
-
-through : {A : Type 0} (at : ℕ) (p : Parser A) (f : A → Parser Expr) → ((a : A) → Gives at (f a)) → Gives at (p >>= f)
-unfolding _>>=_
-through at p f h = record { place = λ m e n r. let b = bind-ok (p m) f r in h (b .0) .place (b .1) e n (b .3) }
-
-abbrev AllGive : (at : ℕ) → List (Parser Expr) → Type 0
-AllGive at [] = Unit {0}
-AllGive at (p ∷ ps) = Gives at p × AllGive at ps
-
-refused : (at node : ℕ) → Gives at (unknownKind {A = Expr} node)
-unfolding unknownKind
-refused at node = record { place = λ m e n r. refused-not-ok r }
-
-picked : (at : ℕ) (ps : List (Parser Expr)) (k : ℕ) → AllGive at ps → Gives at (pick ps at k)
-unfolding pick
-picked at [] k h = refused at at
-picked at (p ∷ ps) zero h = h .0
-picked at (p ∷ ps) (suc k) h = picked at ps k (h .1)
-
-kinds-give : (s : List ℕ) (child : ℕ → Parser Expr) (at end : ℕ) → AllGive at (exprKinds s child at end)
-unfolding exprKinds asNop asConst asNull asNewInstance asConstruct asAssign asField asIndex asConditional asDynCast asLocal asIntrinsic asFreeCall asStaticCall asInstanceCall asClosureCall placeOf
-kinds-give s child at end = (
-  refused at at,
-  (
-    given at _ refl,
-    (
-      through at _ _ (λ a. through at _ _ (λ b. given at _ refl)),
-      (
-        through at _ _ (λ a. given at _ refl),
-        (
-          through at _ _ (λ a. given at _ refl),
-          (
-            through at _ _ (λ a. through at _ _ (λ b. given at _ refl)),
-            (
-              through at _ _ (λ a. through at _ _ (λ b. given at _ refl)),
-              (
-                through at _ _ (λ a. through at _ _ (λ b. through at _ _ (λ c. given at _ refl))),
-                (
-                  through at _ _ (λ a. through at _ _ (λ b. through at _ _ (λ c. through at _ _ (λ d. given at _ refl)))),
-                  (
-                    through at _ _ (λ a. through at _ _ (λ b. through at _ _ (λ c. given at _ refl))),
-                    (
-                      through at _ _ (λ a. through at _ _ (λ b. through at _ _ (λ c. given at _ refl))),
-                      (
-                        through at _ _ (λ a. through at _ _ (λ b. given at _ refl)),
-                        (
-                          through at _ _ (λ a. through at _ _ (λ b. through at _ _ (λ c. through at _ _ (λ d. through at _ _ (λ e. given at _ refl))))),
-                          (
-                            through at _ _ (λ a. through at _ _ (λ b. given at _ refl)),
-                            (
-                              through at _ _ (λ a. through at _ _ (λ b. given at _ refl)),
-                              (
-                                through at _ _ (λ a. through at _ _ (λ b. through at _ _ (λ c. through at _ _ (λ d. given at _ refl)))),
-                                (
-                                  through at _ _ (λ a. through at _ _ (λ b. through at _ _ (λ c. through at _ _ (λ d. given at _ refl)))),
-                                  tt,
-                                ),
-                              ),
-                            ),
-                          ),
-                        ),
-                      ),
-                    ),
-                  ),
-                ),
-              ),
-            ),
-          ),
-        ),
-      ),
-    ),
-  ),
-)
-
-pub place-is : (d : ℕ) (s : List ℕ) (end at : ℕ) (e : Expr) (n : ℕ) → parseExpr d s end at ≡ ok e n → placeOf e ≡ at
-unfolding exprBody
-place-is d s end at e n r =
-    let i = expr-ok d s end at r in
-    picked at (exprKinds s (parseExpr (d - 1) s) at (endOf s at)) (getD s (at + 4) 0) (kinds-give s (parseExpr (d - 1) s) at (endOf s at)) .place (at + 5) e (endOf s at) (i .1 .reads)
-
--- 2. The check
+-- 1. The check
 
 -- at i, of the argument number k: what is left to check
 pub record FlagsRest (d : ℕ) (s : List ℕ) (end : ℕ) (code : Code) (w : Walk) (i k : ℕ) (v : Walk) : Type 0 where
@@ -153,7 +65,7 @@ flags-next {d} {s} {end} {i = i} {k = k} {v = v} r h flagged fits next v₂ tell
     let t = arg-turn d s end i (r .acc) h in
     let b = others-are d s end i next (r .acc) h e in
     let g : flagged ≡ isFlagged (t .item) = tells ∙ flagged-read s i d end (t .next) (t .item) (t .reads) in
-    let p : placeOf (t .item) ≡ i = place-is d s end i (t .item) (t .next) (t .reads) in
+    let p : placeOf (t .item) ≡ i = place-is s i d end (t .next) (t .item) (t .reads) in
     let c : require (not (isFlagged (t .item)) || ltb k 16) 13 (placeOf (t .item)) (k + 1) ≡ require fits 13 i (k + 1) = rw (← g, p, f) in
     record {
       acc = b .0;
@@ -166,7 +78,7 @@ pub flags-end : {d : ℕ} {s : List ℕ} {end : ℕ} {code : Code} {w : Walk} {i
 unfolding requireFlags exprsOf listOf
 flags-end {d} {s} {end} {i = i} {k = k} {v = v} r h = record { did = λ o m. goes-end (goes-on (r .goes o m) (renamed v o m (ap (λ xs. requireFlags (exprsOf xs) k) (none-left d s end i (r .acc) h)))) }
 
--- 3. The bits
+-- 2. The bits
 
 abbrev pub cut : ℕ → ℕ
 cut n = n % 2 ^ 16
@@ -219,7 +131,7 @@ bits-end {d} {s} {end} {all} {i} {bit} r h =
     let x : flagsOf (exprsOf (listOf (exprsFrom d s end i))) bit ≡ 0 = ap (λ xs. flagsOf (exprsOf xs) bit) (none-left d s end i (r .acc) h) ∙ no-bits bit in
     omega (arith, r .same, r .small, x)
 
--- 4. The invoke, whose flags are sixteen bits
+-- 3. The invoke, whose flags are sixteen bits
 
 invoke-cut : (t l n f v : ℕ) {g : ℕ} {w r : Walk} {o o′ : List ℕ} → g ≡ f % 2 ^ 16 → Emitted (invoke t l n g v) w o r o′ → Emitted (invoke t l n f v) w o r o′
 unfolding recordBytes

@@ -1,13 +1,13 @@
 -- Expressions that are one record and then their parts in order. Assumes nothing.
 use Prim.Native.Nat.{ℕ, zero, suc, _+_, _-_, _≤_, _<_}
 use mathlib.Core.Path.{_≡_, refl, sym, ap, _∙_}
-use mathlib.Core.Bool.{Bool, true, false, cond, _&&_}
+use mathlib.Core.Bool.{Bool, _&&_}
 use mathlib.Core.List.{List, [], _∷_}
 use native.Mathlib.Omega.{arith}
 use lib.Dec.{eqb, ltb}
 use lib.ListN.{length, getD, List·getD-eq-default}
-use borrow.Author.Tests.{ltb-false, eq-eqb, ne-eqb}
-use Rattle.definitions.specs.Answer.{ok, onward}
+use borrow.Author.Tests.{ltb-false, ne-eqb}
+use Rattle.definitions.specs.Answer.{ok}
 use Rattle.definitions.specs.Bytes.{number}
 use Rattle.definitions.specs.Tag.{Nop, New, Assign, Construct, DynamicCast, intrinsicOf}
 use Rattle.definitions.specs.Tree.{Expr, exprsOf, lengthExprs}
@@ -15,14 +15,13 @@ use Rattle.definitions.specs.Instr.{plain}
 use Rattle.definitions.specs.Read.{parseExpr}
 use Rattle.definitions.specs.Code.{Code, done, _then_, act, emit}
 use Rattle.definitions.specs.Lower.{BlockSpan, instr, require, nullTag, elementTag, localTag, lowerExpr, lowerExprs}
-use Rattle.laws.proofs.Arms.{None, those, others, Nones, past, one-of}
-use Rattle.laws.proofs.Results.{onward-assoc, onward-made, onward-same}
+use Rattle.laws.proofs.Arms.{None, those, others, past, one-of}
 use Rattle.ir.specs.Places.{endOf, ExprAt, RunAt}
 use Rattle.ir.specs.declared.Class.the-variants.{Expression}
 use Rattle.ir.proofs.Inversion.{expr-at, expr-moves, fill-nil, fill-cons}
 use Rattle.ir.proofs.ExprPlaces.{nop-at, const-at, null-at, new-instance-at, construct-at, assign-at, index-at, dyn-cast-at, local-at, intrinsic-at, no-other}
-use Rattle.steps.specs.Running.{Cells, run}
-use Rattle.steps.specs.Walked.{Accepted, codeOf, listOf, exprCode, fillCode, exprsFrom, constCode, constructCode, intrinsicCode, heads, headOf, headCode, partsFrom, partsAt, ran, Did, Emitted, Left}
+use Rattle.steps.specs.Running.{run}
+use Rattle.steps.specs.Walked.{Accepted, codeOf, listOf, exprCode, fillCode, exprsFrom, constCode, constructCode, intrinsicCode, heads, headOf, headCode, partsFrom, partsAt, Emitted, Left}
 use Rattle.steps.specs.declared.Walk.{Walk}
 use Rattle.steps.proofs.StepLaws.{both, SameRun, same-assoc, same-right, same-on, same-back, same-code, same-end}
 use Rattle.steps.proofs.RunLaws.{listed}

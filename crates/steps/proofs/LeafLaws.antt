@@ -8,13 +8,13 @@ use lib.Dec.{eqb, ltb}
 use lib.ListN.{length, getD, List·getD-eq-default}
 use borrow.Author.Tests.{lt-ltb, le-ltb, eqb-true, eq-eqb, ne-eqb}
 use Rattle.definitions.specs.Bytes.{number}
-use Rattle.definitions.specs.Tag.{Nop, Assign, Local, Construct, Null, ArrayClear, I32ToEnum, I8Const, This, Param, ObjectField, I32Zero, I32One, I32Const, FalseConst, TrueConst, constTag, constTags, constWidths, intrinsics, intrinsicOf, defaultTags}
+use Rattle.definitions.specs.Tag.{Nop, Assign, Local, Construct, Null, ArrayClear, I32ToEnum, I8Const, ObjectField, I32Zero, I32One, I32Const, FalseConst, TrueConst, constTag, constTags, constWidths, intrinsics, intrinsicOf, defaultTags}
 use Rattle.definitions.specs.Instr.{plain}
-use Rattle.definitions.specs.Code.{Code, new, mark, emit, act, emits, done, label, many, _then_}
+use Rattle.definitions.specs.Code.{new, mark, emit, act, emits, done, many}
 use Rattle.definitions.specs.Lower.{instr, localTag, primitiveDefault, defaultInstrs}
 use Rattle.definitions.specs.Answer.{onward}
-use Rattle.steps.specs.Running.{Cells, run}
-use Rattle.steps.specs.Walked.{constCode, markIf, sameAs, ran, Did, Emitted, Labelled}
+use Rattle.steps.specs.Running.{run}
+use Rattle.steps.specs.Walked.{constCode, markIf, sameAs, ran, Emitted, Labelled}
 use Rattle.steps.specs.declared.Walk.{Walk}
 use denote.Enum.Declared.{tagOf}
 use native.Mathlib.Decide.{decLt}

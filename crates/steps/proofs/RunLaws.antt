@@ -6,10 +6,10 @@ use mathlib.Core.Option.{none}
 use native.Mathlib.Omega.{arith}
 use lib.ListN.{length, getD}
 use Rattle.definitions.specs.Answer.{Answer, ok, onward}
-use Rattle.definitions.specs.Tree.{Expr, Stmt, Block, exprsOf, blockOf, branchesOf}
+use Rattle.definitions.specs.Tree.{Expr, Stmt, exprsOf, blockOf}
 use Rattle.definitions.specs.Read.{Parser, filling, parseExpr, parseStmt}
 use Rattle.definitions.specs.Code.{Code, done, act, new, label, _then_}
-use Rattle.definitions.specs.Lower.{BlockSpan, lowerExpr, lowerExprs, lowerArgs, lowerArg, nops, lowerStmt, lowerBlock}
+use Rattle.definitions.specs.Lower.{BlockSpan, lowerExpr, lowerArgs, lowerArg, lowerStmt}
 use Rattle.ir.specs.Class.{TreeOf, nodeOf}
 use Rattle.ir.specs.Places.{endOf}
 use Rattle.ir.specs.declared.Class.{Class}
@@ -18,7 +18,7 @@ use denote.Enum.Declared.{tagOf}
 use Rattle.ir.proofs.Class.{the-type as class-type}
 use Rattle.ir.proofs.Inversion.{fill-some, fill-none, expr-at, stmt-at, expr-moves, stmt-moves}
 use Rattle.steps.specs.Running.{run}
-use Rattle.steps.specs.Walked.{Accepted, codeOf, ran, labelsOf, lowerOf, lowerAll, nodeCode, stmtCode, exprCode, exprsFrom, argsCode, listOf, marksFrom, Called, Emitted, Nops, Did}
+use Rattle.steps.specs.Walked.{Accepted, codeOf, ran, labelsOf, lowerOf, lowerAll, nodeCode, stmtCode, exprCode, exprsFrom, argsCode, listOf, marksFrom, Called, Nops, Did}
 use Rattle.steps.specs.declared.Walk.{Walk}
 use Rattle.laws.proofs.Results.{onward-assoc, onward-made, onward-same}
 use Rattle.steps.proofs.StepLaws.{fresh-same, recode, SameRun}

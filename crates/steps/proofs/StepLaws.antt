@@ -12,18 +12,18 @@ use native.Mathlib.Omega.{arith}
 use Rattle.definitions.specs.Bytes.{bytes}
 use Rattle.definitions.specs.Tag.{tagSize, rowOf, WeakRefToRef, Nop}
 use Rattle.definitions.specs.Tag as definitions
-use Rattle.definitions.specs.Instr.{Instr, recordLength, recordBytes, size, plain}
+use Rattle.definitions.specs.Instr.{Instr, recordBytes, size, plain}
 use Rattle.definitions.specs.Listing.{listingLength}
-use Rattle.definitions.specs.Code.{Code, done, _then_, label, many, Action, mark, new, emit, refuse, unmarked, labelLimit, act}
+use Rattle.definitions.specs.Code.{Code, done, _then_, label, Action, mark, new, emit, refuse, unmarked, labelLimit, act}
 use Rattle.definitions.specs.Lower.{require, jumpTo, jump, instr, weakToRef, nullTag, elementTag, nops, BlockSpan}
 use Rattle.instr.specs.Values.{written, rowIs}
 use Rattle.instr.specs.declared.tables.Row.{Row}
-use Rattle.definitions.specs.Answer.{Result, made, refusal, onward, checked}
+use Rattle.definitions.specs.Answer.{onward, checked}
 use Rattle.laws.proofs.Sizes.{size-is}
 use Rattle.laws.proofs.Results.{onward-assoc, onward-made, onward-same}
-use Rattle.steps.specs.Running.{Cells, put, setMade, word, move, run}
+use Rattle.steps.specs.Running.{Cells, put, setMade, move, run}
 use Rattle.ir.specs.declared.Class.{Class}
-use Rattle.steps.specs.Walked.{codeOf, fillCode, groupLabel, openCode, ran, labelsOf, targetOf, Did, Emitted, Labelled, Left}
+use Rattle.steps.specs.Walked.{fillCode, groupLabel, openCode, ran, labelsOf, targetOf, Did, Emitted, Labelled, Left}
 use Rattle.steps.specs.declared.Counters.{Counters}
 use Rattle.steps.specs.declared.Target.{Target}
 use Rattle.steps.specs.declared.Target.the-variants.{Nowhere, Label}

@@ -1,6 +1,6 @@
 -- The walk's own running of code: counters of 32 bits and two buffers, written where it fits.
 use Prim.Native.Nat.{ℕ, _+_, _%_, _^_}
-use mathlib.Core.Bool.{true, false, cond}
+use mathlib.Core.Bool.{cond}
 use mathlib.Core.List.{List, _++_}
 use lib.Dec.{ltb, leb}
 use lib.ListN.{length, set, take, drop}

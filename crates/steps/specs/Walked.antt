@@ -1,5 +1,5 @@
 -- What the contracts of the walk cite: the code of what the bytes hold, and what a walk's value and the two buffers say together.
-use Prim.Native.Nat.{ℕ, zero, suc, _+_, _≤_, _%_, _^_}
+use Prim.Native.Nat.{ℕ, zero, suc, _+_, _≤_}
 use mathlib.Core.Bool.{Bool, cond, _&&_}
 use mathlib.Core.List.{List, [], _∷_}
 use mathlib.Core.Option.{Option, none, some}
@@ -8,13 +8,13 @@ use lib.Dec.{eqb, ltb}
 use lib.ListN.{length, getD}
 use Rattle.definitions.specs.Answer.{Answer, ok, refused, Result, made, refusal, onward}
 use Rattle.definitions.specs.Bytes.{number}
-use Rattle.definitions.specs.Tree.{Callee, Expr, Stmt, Block, Default, absent, exprsOf, blockOf, branchesOf, casesOf, lengthCases}
+use Rattle.definitions.specs.Tree.{Callee, Expr, Block, Default, absent, exprsOf, blockOf, casesOf, lengthCases}
 use Rattle.definitions.specs.Read.{parseExpr, parseStmt, arm, filling, blockIf}
 use Rattle.definitions.specs.Read as read
 use Rattle.definitions.specs.Instr.{Instr, plain}
-use Rattle.definitions.specs.Code.{Code, new, mark, emit, act, emits, _then_, done, label, many, State}
+use Rattle.definitions.specs.Code.{Code, new, mark, emit, act, emits, _then_, done, label, many}
 use Rattle.definitions.specs.Tag.{Nop, New, Construct, DynamicCast, SwitchDefault, Jump, Assign, ArrayElement, Local, U64Const, constTag, constWidths, intrinsicOf}
-use Rattle.definitions.specs.Lower.{BlockSpan, lowerExpr, lowerExprs, lowerArgs, lowerElements, lowerStmt, lowerBlock, lowerBranches, lowerDefault, lowerLast, lowerCases, lowerMatchers, lowerBodies, lowerBlocks, emitCall, requireFlags, flagsOf, inGroup, midDefault, require, instr, jump, nops, nullTag, elementTag, localTag}
+use Rattle.definitions.specs.Lower.{BlockSpan, lowerExpr, lowerExprs, lowerArgs, lowerStmt, lowerBlock, lowerDefault, lowerLast, lowerCases, lowerMatchers, lowerBodies, emitCall, midDefault, require, instr, jump, nops, nullTag, elementTag, localTag}
 use Rattle.ir.specs.Class.{TreeOf, nodeOf}
 use Rattle.ir.specs.Places.{endOf}
 use Rattle.ir.specs.declared.Class.{Class}

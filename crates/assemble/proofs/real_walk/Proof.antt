@@ -1,5 +1,4 @@
 use Rattle.assemble.proofs.LowerLaws.{unit-here, real-did}
-use Rattle.steps.specs.Walked.{spanOf, targetOf}
 use native.Mathlib.Omega.{arith}
 use borrow.Author.Needs.{needs}
 use Rattle.assemble.proofs.real_walk.Statement.{statement}

@@ -1,7 +1,6 @@
 use Rattle.assemble.proofs.MidLaws.{ArmsCount, arms-count-start, arms-count-arm, arms-count-next, arms-count-end}
 use mathlib.Core.Path.{refl}
 use Prim.Native.Nat.{_-_}
-use borrow.Author.Needs.{needs}
 use native.Mathlib.Omega.{arith}
 use Rattle.assemble.proofs.arms.count_arms.Statement.{statement}
 use Rattle.assemble.proofs.arms.count_arms.Tie as tie

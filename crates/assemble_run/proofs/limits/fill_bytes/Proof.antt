@@ -1,6 +1,6 @@
 use mathlib.Core.Path.{_≡_}
 use lib.ListN.{length}
-use Prim.Native.Nat.{_≤_, _-_}
+use Prim.Native.Nat.{_-_}
 use borrow.Author.Needs.{needs}
 use Rattle.assemble_run.proofs.limits.fill_bytes.Statement.{statement}
 use Rattle.assemble_run.proofs.limits.fill_bytes.Tie as tie

@@ -5,8 +5,7 @@ use Prim.Native.Nat.{_+_, _%_, _^_}
 use mathlib.Core.Path.{ap}
 use Rattle.steps.proofs.RunLaws.{called-at}
 use Rattle.steps.proofs.FlagLaws.{invoke-virtual, invoke-static}
-use mathlib.Core.Path.{sym, _∙_}
-use native.Mathlib.Omega.{arith}
+use mathlib.Core.Path.{_∙_}
 use borrow.Author.Needs.{needs}
 use Rattle.steps.proofs.calls.emit_invoke.Statement.{statement}
 use Rattle.steps.proofs.calls.emit_invoke.Tie as tie

@@ -1,6 +1,4 @@
 use mathlib.Core.Path.{refl}
-use native.Mathlib.Omega.{arith}
-use borrow.Author.Needs.{needs}
 use Rattle.steps.proofs.calls.flag_fits.Statement.{statement}
 use Rattle.steps.proofs.calls.flag_fits.Tie as tie
 use Rattle.steps.proofs.calls.flag_fits.Reads as reads

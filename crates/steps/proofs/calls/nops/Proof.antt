@@ -1,6 +1,5 @@
 use Rattle.steps.proofs.StepLaws.{NopsRest, nops-start, nops-next, nops-end}
 use borrow.Author.Needs.{needs}
-use native.Mathlib.Omega.{arith}
 use Rattle.steps.proofs.calls.nops.Statement.{statement}
 use Rattle.steps.proofs.calls.nops.Tie as tie
 use Rattle.steps.proofs.calls.nops.Reads as reads

@@ -1,5 +1,4 @@
 use Rattle.steps.proofs.StepLaws.{weak-none, weak-some}
-use native.Mathlib.Omega.{arith}
 use borrow.Author.Needs.{needs}
 use Rattle.steps.proofs.calls.weak_to_ref.Statement.{statement}
 use Rattle.steps.proofs.calls.weak_to_ref.Tie as tie

@@ -1,5 +1,4 @@
 use Rattle.steps.proofs.HeadLaws.{constructed}
-use native.Mathlib.Omega.{arith}
 use borrow.Author.Needs.{needs}
 use Rattle.steps.proofs.heads.construct.Statement.{statement}
 use Rattle.steps.proofs.heads.construct.Tie as tie

@@ -1,5 +1,4 @@
 use Rattle.steps.proofs.HeadLaws.{intrinsic-did}
-use native.Mathlib.Omega.{arith}
 use borrow.Author.Needs.{needs}
 use Rattle.steps.proofs.heads.intrinsic.Statement.{statement}
 use Rattle.steps.proofs.heads.intrinsic.Tie as tie

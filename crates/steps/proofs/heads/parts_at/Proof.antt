@@ -1,5 +1,4 @@
 use Rattle.steps.proofs.HeadLaws.{parts-none, parts-some}
-use native.Mathlib.Omega.{arith}
 use borrow.Author.Needs.{needs}
 use Rattle.steps.proofs.heads.parts_at.Statement.{statement}
 use Rattle.steps.proofs.heads.parts_at.Tie as tie

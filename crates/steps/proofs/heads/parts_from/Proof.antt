@@ -1,7 +1,6 @@
 use Rattle.laws.proofs.Arms.{those}
 use Rattle.steps.specs.Walked.{partsFrom}
 use Rattle.steps.proofs.HeadLaws.{from-other}
-use borrow.Author.Needs.{needs}
 use native.Mathlib.Omega.{arith}
 use Rattle.steps.proofs.heads.parts_from.Statement.{statement}
 use Rattle.steps.proofs.heads.parts_from.Tie as tie

@@ -1,5 +1,4 @@
 use Rattle.steps.proofs.StepLaws.{label-stays, mark-did}
-use native.Mathlib.Omega.{arith}
 use borrow.Author.Needs.{needs}
 use Rattle.steps.proofs.labels.mark_label.Statement.{statement}
 use Rattle.steps.proofs.labels.mark_label.Tie as tie

@@ -1,5 +1,4 @@
 use Rattle.steps.proofs.StepLaws.{label-stays, new-did, new-stopped}
-use native.Mathlib.Omega.{arith}
 use borrow.Author.Needs.{needs}
 use Rattle.steps.proofs.labels.new_label.Statement.{statement}
 use Rattle.steps.proofs.labels.new_label.Tie as tie

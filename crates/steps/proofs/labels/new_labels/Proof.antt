@@ -1,6 +1,5 @@
 use Rattle.steps.proofs.LeafLaws.{NewRest, new-start, new-next, new-end}
 use borrow.Author.Needs.{needs}
-use native.Mathlib.Omega.{arith}
 use Rattle.steps.proofs.labels.new_labels.Statement.{statement}
 use Rattle.steps.proofs.labels.new_labels.Tie as tie
 use Rattle.steps.proofs.labels.new_labels.Reads as reads

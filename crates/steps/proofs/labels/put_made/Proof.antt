@@ -1,5 +1,4 @@
 use Rattle.steps.proofs.StepLaws.{made-set, made-not}
-use native.Mathlib.Omega.{arith}
 use borrow.Author.Needs.{needs}
 use Rattle.steps.proofs.labels.put_made.Statement.{statement}
 use Rattle.steps.proofs.labels.put_made.Tie as tie

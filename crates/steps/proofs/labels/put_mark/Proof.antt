@@ -1,6 +1,5 @@
 use Rattle.steps.proofs.StepLaws.{set-out}
 use mathlib.Core.Path.{sym}
-use native.Mathlib.Omega.{arith}
 use borrow.Author.Needs.{needs}
 use Rattle.steps.proofs.labels.put_mark.Statement.{statement}
 use Rattle.steps.proofs.labels.put_mark.Tie as tie

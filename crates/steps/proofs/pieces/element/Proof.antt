@@ -1,7 +1,6 @@
 use Rattle.steps.proofs.StepLaws.{emitted-both, none-emitted}
 use Rattle.steps.specs.Walked.{elementCode}
 use Rattle.definitions.specs.Code.{emits}
-use native.Mathlib.Omega.{arith}
 use borrow.Author.Needs.{needs}
 use Rattle.steps.proofs.pieces.element.Statement.{statement}
 use Rattle.steps.proofs.pieces.element.Tie as tie

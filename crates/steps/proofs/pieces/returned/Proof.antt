@@ -1,6 +1,5 @@
 use Rattle.definitions.specs.Lower.{lowerReturnNothing}
 use Rattle.steps.proofs.StepLaws.{emitted-both}
-use native.Mathlib.Omega.{arith}
 use borrow.Author.Needs.{needs}
 use Rattle.steps.proofs.pieces.returned.Statement.{statement}
 use Rattle.steps.proofs.pieces.returned.Tie as tie

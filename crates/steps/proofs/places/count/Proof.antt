@@ -1,6 +1,5 @@
 use Prim.Native.Nat.{_-_}
 use Rattle.steps.proofs.RunLaws.{CountRest, count-start, count-turn, count-next, count-end, expr-placed}
-use borrow.Author.Needs.{needs}
 use native.Mathlib.Omega.{arith}
 use Rattle.steps.proofs.places.count.Statement.{statement}
 use Rattle.steps.proofs.places.count.Tie as tie

@@ -1,5 +1,4 @@
 use Rattle.steps.proofs.StepLaws.{emit-stays, emit-did}
-use native.Mathlib.Omega.{arith}
 use borrow.Author.Needs.{needs}
 use Rattle.steps.proofs.records.emit.Statement.{statement}
 use Rattle.steps.proofs.records.emit.Tie as tie

@@ -1,4 +1,3 @@
-use native.Mathlib.Omega.{arith}
 use borrow.Author.Needs.{needs}
 use Rattle.steps.proofs.records.jumps.Statement.{statement}
 use Rattle.steps.proofs.records.jumps.Tie as tie

@@ -1,6 +1,5 @@
 use Rattle.steps.proofs.StepLaws.{plain-did}
 use borrow.Author.Needs.{needs}
-use native.Mathlib.Omega.{arith}
 use Rattle.steps.proofs.records.plain.Statement.{statement}
 use Rattle.steps.proofs.records.plain.Tie as tie
 use Rattle.steps.proofs.records.plain.Reads as reads

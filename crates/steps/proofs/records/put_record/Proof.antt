@@ -1,5 +1,4 @@
 use Rattle.steps.proofs.StepLaws.{put-in, put-out}
-use native.Mathlib.Omega.{arith}
 use borrow.Author.Needs.{needs}
 use Rattle.steps.proofs.records.put_record.Statement.{statement}
 use Rattle.steps.proofs.records.put_record.Tie as tie

@@ -1,5 +1,4 @@
 use Rattle.steps.proofs.StepLaws.{jump-did, no-jump}
-use native.Mathlib.Omega.{arith}
 use borrow.Author.Needs.{needs}
 use Rattle.steps.proofs.refusals.jump_to.Statement.{statement}
 use Rattle.steps.proofs.refusals.jump_to.Tie as tie

@@ -1,5 +1,4 @@
 use Rattle.steps.proofs.StepLaws.{all-stays, refuse-did}
-use native.Mathlib.Omega.{arith}
 use borrow.Author.Needs.{needs}
 use Rattle.steps.proofs.refusals.refuse.Statement.{statement}
 use Rattle.steps.proofs.refusals.refuse.Tie as tie

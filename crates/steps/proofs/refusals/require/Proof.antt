@@ -1,5 +1,4 @@
 use Rattle.steps.proofs.StepLaws.{require-passed, require-failed}
-use native.Mathlib.Omega.{arith}
 use borrow.Author.Needs.{needs}
 use Rattle.steps.proofs.refusals.require.Statement.{statement}
 use Rattle.steps.proofs.refusals.require.Tie as tie

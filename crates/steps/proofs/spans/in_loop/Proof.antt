@@ -1,7 +1,5 @@
 use mathlib.Core.Path.{refl}
 use Rattle.steps.specs.Walked.{spanOf, targetOf}
-use borrow.Author.Needs.{needs}
-use native.Mathlib.Omega.{arith}
 use Rattle.steps.proofs.spans.in_loop.Statement.{statement}
 use Rattle.steps.proofs.spans.in_loop.Tie as tie
 use Rattle.steps.proofs.spans.in_loop.Reads as reads

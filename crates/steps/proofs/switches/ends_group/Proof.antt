@@ -1,7 +1,5 @@
 use mathlib.Core.Path.{refl}
 use borrow.Author.Tests.{lt-ltb, le-ltb}
-use borrow.Author.Needs.{needs}
-use native.Mathlib.Omega.{arith}
 use Rattle.steps.proofs.switches.ends_group.Statement.{statement}
 use Rattle.steps.proofs.switches.ends_group.Tie as tie
 use Rattle.steps.proofs.switches.ends_group.Reads as reads

@@ -1,7 +1,5 @@
 use Rattle.steps.specs.Walked.{targetOf}
 use mathlib.Core.Path.{refl}
-use borrow.Author.Needs.{needs}
-use native.Mathlib.Omega.{arith}
 use Rattle.steps.proofs.switches.group_after.Statement.{statement}
 use Rattle.steps.proofs.switches.group_after.Tie as tie
 use Rattle.steps.proofs.switches.group_after.Reads as reads

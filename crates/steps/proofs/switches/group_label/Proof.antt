@@ -1,5 +1,4 @@
 use Rattle.steps.proofs.StepLaws.{group-is, group-new}
-use native.Mathlib.Omega.{arith}
 use borrow.Author.Needs.{needs}
 use Rattle.steps.proofs.switches.group_label.Statement.{statement}
 use Rattle.steps.proofs.switches.group_label.Tie as tie

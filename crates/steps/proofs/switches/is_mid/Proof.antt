@@ -1,6 +1,4 @@
 use Rattle.steps.proofs.LeafLaws.{mid-no, mid-is}
-use borrow.Author.Needs.{needs}
-use native.Mathlib.Omega.{arith}
 use Rattle.steps.proofs.switches.is_mid.Statement.{statement}
 use Rattle.steps.proofs.switches.is_mid.Tie as tie
 use Rattle.steps.proofs.switches.is_mid.Reads as reads

@@ -1,7 +1,4 @@
 use Rattle.steps.proofs.LeafLaws.{same-yes, same-no}
-use Rattle.steps.specs.Walked.{sameAs}
-use borrow.Author.Needs.{needs}
-use native.Mathlib.Omega.{arith}
 use Rattle.steps.proofs.switches.is_same.Statement.{statement}
 use Rattle.steps.proofs.switches.is_same.Tie as tie
 use Rattle.steps.proofs.switches.is_same.Reads as reads

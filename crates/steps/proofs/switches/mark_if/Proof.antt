@@ -1,5 +1,4 @@
 use Rattle.steps.proofs.LeafLaws.{mark-not, mark-here}
-use native.Mathlib.Omega.{arith}
 use borrow.Author.Needs.{needs}
 use Rattle.steps.proofs.switches.mark_if.Statement.{statement}
 use Rattle.steps.proofs.switches.mark_if.Tie as tie

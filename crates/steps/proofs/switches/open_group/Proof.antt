@@ -1,5 +1,4 @@
 use Rattle.steps.proofs.StepLaws.{open-not, open-new}
-use native.Mathlib.Omega.{arith}
 use borrow.Author.Needs.{needs}
 use Rattle.steps.proofs.switches.open_group.Statement.{statement}
 use Rattle.steps.proofs.switches.open_group.Tie as tie

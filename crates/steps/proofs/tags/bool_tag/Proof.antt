@@ -1,5 +1,4 @@
 use Rattle.steps.proofs.LeafLaws.{bool-other}
-use native.Mathlib.Omega.{arith}
 use borrow.Author.Needs.{needs}
 use Rattle.steps.proofs.tags.bool_tag.Statement.{statement}
 use Rattle.steps.proofs.tags.bool_tag.Tie as tie

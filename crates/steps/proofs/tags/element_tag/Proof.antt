@@ -1,6 +1,4 @@
 use Rattle.steps.proofs.StepLaws.{element-static, element-dynamic}
-use borrow.Author.Needs.{needs}
-use native.Mathlib.Omega.{arith}
 use Rattle.steps.proofs.tags.element_tag.Statement.{statement}
 use Rattle.steps.proofs.tags.element_tag.Tie as tie
 use Rattle.steps.proofs.tags.element_tag.Reads as reads

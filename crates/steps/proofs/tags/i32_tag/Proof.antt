@@ -1,5 +1,4 @@
 use Rattle.steps.proofs.LeafLaws.{i32-other}
-use native.Mathlib.Omega.{arith}
 use borrow.Author.Needs.{needs}
 use Rattle.steps.proofs.tags.i32_tag.Statement.{statement}
 use Rattle.steps.proofs.tags.i32_tag.Tie as tie

@@ -1,7 +1,5 @@
 use Rattle.definitions.specs.Lower.{localTag}
 use Rattle.steps.proofs.LeafLaws.{local-is, local-other}
-use borrow.Author.Needs.{needs}
-use native.Mathlib.Omega.{arith}
 use Rattle.steps.proofs.tags.local_tag.Statement.{statement}
 use Rattle.steps.proofs.tags.local_tag.Tie as tie
 use Rattle.steps.proofs.tags.local_tag.Reads as reads

@@ -1,6 +1,4 @@
 use Rattle.steps.proofs.StepLaws.{null-none, null-some}
-use borrow.Author.Needs.{needs}
-use native.Mathlib.Omega.{arith}
 use Rattle.steps.proofs.tags.null_tag.Statement.{statement}
 use Rattle.steps.proofs.tags.null_tag.Tie as tie
 use Rattle.steps.proofs.tags.null_tag.Reads as reads

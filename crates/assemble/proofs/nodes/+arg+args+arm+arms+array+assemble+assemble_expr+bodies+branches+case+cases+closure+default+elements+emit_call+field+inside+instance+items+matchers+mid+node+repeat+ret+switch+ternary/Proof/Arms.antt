@@ -1,14 +1,12 @@
 use Rattle.assemble.proofs.CaseLaws.{ArmsRest, arms-start, arms-turn, arms-arm, arms-next, arms-end}
 use mathlib.Core.Path.{refl}
-use Rattle.steps.proofs.RunLaws.{Rest}
-use mathlib.Core.Option.{none}
-use Rattle.definitions.specs.Tree.{casesOf, branchesOf}
-use Rattle.definitions.specs.Read.{parseExpr, parseStmt, arm}
-use Rattle.definitions.specs.Lower.{lowerCases, lowerBranches}
-use Rattle.steps.specs.Walked.{codeOf, armsFrom, spanOf, targetOf}
+use Rattle.definitions.specs.Tree.{branchesOf}
+use Rattle.definitions.specs.Read.{arm}
+use Rattle.definitions.specs.Lower.{lowerBranches}
+use Rattle.steps.specs.Walked.{codeOf, armsFrom, spanOf}
 use borrow.Author.Needs.{needs}
 use native.Mathlib.Omega.{arith}
-use Prim.Native.Nat.{ℕ, _+_, _*_, _-_, _<_}
+use Prim.Native.Nat.{ℕ, _-_}
 use Rattle.assemble.proofs.nodes.arms.Reads as arms
 use Rattle.assemble.proofs.nodes.+arg+args+arm+arms+array+assemble+assemble_expr+bodies+branches+case+cases+closure+default+elements+emit_call+field+inside+instance+items+matchers+mid+node+repeat+ret+switch+ternary.Lts-arms as arms-lts
 use Rattle.assemble.proofs.nodes.+arg+args+arm+arms+array+assemble+assemble_expr+bodies+branches+case+cases+closure+default+elements+emit_call+field+inside+instance+items+matchers+mid+node+repeat+ret+switch+ternary.Proof.Common.{arms-calls, arms-at}

@@ -2,11 +2,10 @@ use Rattle.steps.proofs.StepLaws.{recode, both, emitted, nothing}
 use Rattle.assemble.proofs.StmtCode.{array-run, array-here, no-array, an-array}
 use Rattle.steps.proofs.RunLaws.{stmt-placed, run-some, run-none}
 use Rattle.steps.specs.Walked.{spanOf}
-use lib.ListN.{length}
-use mathlib.Core.Path.{refl, sym, ap, _∙_}
+use mathlib.Core.Path.{refl, _∙_}
 use borrow.Author.Needs.{needs}
 use native.Mathlib.Omega.{arith}
-use Prim.Native.Nat.{ℕ, _+_, _*_, _-_, _<_}
+use Prim.Native.Nat.{ℕ}
 use Rattle.assemble.proofs.nodes.array.Reads as array
 use Rattle.assemble.proofs.nodes.+arg+args+arm+arms+array+assemble+assemble_expr+bodies+branches+case+cases+closure+default+elements+emit_call+field+inside+instance+items+matchers+mid+node+repeat+ret+switch+ternary.Lts-array as array-lts
 use Rattle.assemble.proofs.nodes.+arg+args+arm+arms+array+assemble+assemble_expr+bodies+branches+case+cases+closure+default+elements+emit_call+field+inside+instance+items+matchers+mid+node+repeat+ret+switch+ternary.Proof.Common.{array-calls, array-at}

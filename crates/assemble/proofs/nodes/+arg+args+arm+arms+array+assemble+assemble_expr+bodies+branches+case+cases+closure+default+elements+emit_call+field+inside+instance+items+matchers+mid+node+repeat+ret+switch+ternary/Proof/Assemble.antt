@@ -4,10 +4,9 @@ use Rattle.steps.proofs.StepLaws.{recode, emitted}
 use Rattle.assemble.proofs.StmtCode.{eval-here, nest-here, break-code, continue-code}
 use Rattle.steps.proofs.RunLaws.{stmt-placed}
 use Rattle.steps.specs.Walked.{spanOf}
-use mathlib.Core.Path.{refl}
 use borrow.Author.Needs.{needs}
 use native.Mathlib.Omega.{arith}
-use Prim.Native.Nat.{ℕ, _+_, _*_, _-_, _<_}
+use Prim.Native.Nat.{ℕ}
 use Rattle.assemble.proofs.nodes.assemble.Reads as assemble
 use Rattle.assemble.proofs.nodes.+arg+args+arm+arms+array+assemble+assemble_expr+bodies+branches+case+cases+closure+default+elements+emit_call+field+inside+instance+items+matchers+mid+node+repeat+ret+switch+ternary.Lts-assemble as assemble-lts
 use Rattle.assemble.proofs.nodes.+arg+args+arm+arms+array+assemble+assemble_expr+bodies+branches+case+cases+closure+default+elements+emit_call+field+inside+instance+items+matchers+mid+node+repeat+ret+switch+ternary.Proof.Common.{assemble-calls, assemble-at}

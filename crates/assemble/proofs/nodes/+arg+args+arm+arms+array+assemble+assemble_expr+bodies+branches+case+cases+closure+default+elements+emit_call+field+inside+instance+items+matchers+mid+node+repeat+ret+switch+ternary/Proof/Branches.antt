@@ -1,11 +1,11 @@
-use Rattle.steps.proofs.StepLaws.{recode, both, fresh, emitted, labelled}
+use Rattle.steps.proofs.StepLaws.{recode, both, fresh, labelled}
 use Rattle.assemble.proofs.StmtCode.{branches-here}
 use Rattle.steps.proofs.RunLaws.{stmt-placed}
 use Rattle.steps.specs.Walked.{spanOf}
 use mathlib.Core.Path.{refl}
 use borrow.Author.Needs.{needs}
 use native.Mathlib.Omega.{arith}
-use Prim.Native.Nat.{ℕ, _+_, _*_, _-_, _<_}
+use Prim.Native.Nat.{ℕ}
 use Rattle.assemble.proofs.nodes.branches.Reads as branches
 use Rattle.assemble.proofs.nodes.+arg+args+arm+arms+array+assemble+assemble_expr+bodies+branches+case+cases+closure+default+elements+emit_call+field+inside+instance+items+matchers+mid+node+repeat+ret+switch+ternary.Lts-branches as branches-lts
 use Rattle.assemble.proofs.nodes.+arg+args+arm+arms+array+assemble+assemble_expr+bodies+branches+case+cases+closure+default+elements+emit_call+field+inside+instance+items+matchers+mid+node+repeat+ret+switch+ternary.Proof.Common.{branches-calls, branches-at}

@@ -8,7 +8,7 @@ use Rattle.definitions.specs.Tag.{SwitchLabel}
 use mathlib.Core.Path.{refl}
 use borrow.Author.Needs.{needs}
 use native.Mathlib.Omega.{arith}
-use Prim.Native.Nat.{ℕ, _+_, _*_, _-_, _<_}
+use Prim.Native.Nat.{ℕ}
 use Rattle.assemble.proofs.nodes.case.Reads as case
 use Rattle.assemble.proofs.nodes.+arg+args+arm+arms+array+assemble+assemble_expr+bodies+branches+case+cases+closure+default+elements+emit_call+field+inside+instance+items+matchers+mid+node+repeat+ret+switch+ternary.Lts-case as case-lts
 use Rattle.assemble.proofs.nodes.+arg+args+arm+arms+array+assemble+assemble_expr+bodies+branches+case+cases+closure+default+elements+emit_call+field+inside+instance+items+matchers+mid+node+repeat+ret+switch+ternary.Proof.Common.{case-calls, case-at}

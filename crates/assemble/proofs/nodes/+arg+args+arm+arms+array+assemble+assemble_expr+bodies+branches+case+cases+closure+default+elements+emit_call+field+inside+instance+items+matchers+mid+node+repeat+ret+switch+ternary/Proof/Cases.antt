@@ -1,15 +1,12 @@
 use Rattle.assemble.proofs.CaseLaws.{CasesRest, cases-start, cases-turn, cases-arm, cases-next, cases-end}
-use Rattle.steps.proofs.RunLaws.{rest-start}
 use mathlib.Core.Path.{refl}
-use Rattle.steps.proofs.RunLaws.{Rest}
 use mathlib.Core.Option.{none}
-use Rattle.definitions.specs.Tree.{casesOf, branchesOf}
-use Rattle.definitions.specs.Read.{parseExpr, parseStmt, arm}
-use Rattle.definitions.specs.Lower.{lowerCases, lowerBranches}
+use Rattle.definitions.specs.Tree.{casesOf}
+use Rattle.definitions.specs.Lower.{lowerCases}
 use Rattle.steps.specs.Walked.{codeOf, armsFrom, spanOf, targetOf}
 use borrow.Author.Needs.{needs}
 use native.Mathlib.Omega.{arith}
-use Prim.Native.Nat.{ℕ, _+_, _*_, _-_, _<_}
+use Prim.Native.Nat.{ℕ, _-_}
 use Rattle.assemble.proofs.nodes.cases.Reads as cases
 use Rattle.assemble.proofs.nodes.+arg+args+arm+arms+array+assemble+assemble_expr+bodies+branches+case+cases+closure+default+elements+emit_call+field+inside+instance+items+matchers+mid+node+repeat+ret+switch+ternary.Lts-cases as cases-lts
 use Rattle.assemble.proofs.nodes.+arg+args+arm+arms+array+assemble+assemble_expr+bodies+branches+case+cases+closure+default+elements+emit_call+field+inside+instance+items+matchers+mid+node+repeat+ret+switch+ternary.Proof.Common.{cases-calls, cases-at}

@@ -114,8 +114,6 @@ use Rattle.steps.proofs.switches.is_mid.Reads as is-mid-reads
 use Rattle.steps.proofs.switches.is_same.Reads as is-same-reads
 use Rattle.steps.proofs.switches.mark_if.Reads as mark-if-reads
 use Rattle.steps.proofs.switches.open_group.Reads as open-group-reads
-use Rattle.assemble.proofs.nodes.+arg+args+arm+arms+array+assemble+assemble_expr+bodies+branches+case+cases+closure+default+elements+emit_call+field+inside+instance+items+matchers+mid+node+repeat+ret+switch+ternary.{statement}
-use Rattle.assemble.proofs.nodes.+arg+args+arm+arms+array+assemble+assemble_expr+bodies+branches+case+cases+closure+default+elements+emit_call+field+inside+instance+items+matchers+mid+node+repeat+ret+switch+ternary.Tie.{close}
 
 abbrev pub μ-arg : Measures 3 arg-kinds.ps ℕ
 μ-arg κs a = 20 * a .1 .1 .1 .0 + 4

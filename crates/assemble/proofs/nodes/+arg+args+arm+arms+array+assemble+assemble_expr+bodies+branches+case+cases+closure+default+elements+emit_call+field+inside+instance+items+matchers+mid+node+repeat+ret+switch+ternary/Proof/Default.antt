@@ -2,7 +2,7 @@ use Rattle.steps.proofs.StepLaws.{recode, nothing}
 use Rattle.assemble.proofs.StmtCode.{a-default, default-code, no-default-code}
 use borrow.Author.Needs.{needs}
 use native.Mathlib.Omega.{arith}
-use Prim.Native.Nat.{ℕ, _+_, _*_, _-_, _<_}
+use Prim.Native.Nat.{ℕ}
 use Rattle.assemble.proofs.nodes.default.Reads as default
 use Rattle.assemble.proofs.nodes.+arg+args+arm+arms+array+assemble+assemble_expr+bodies+branches+case+cases+closure+default+elements+emit_call+field+inside+instance+items+matchers+mid+node+repeat+ret+switch+ternary.Lts-default as default-lts
 use Rattle.assemble.proofs.nodes.+arg+args+arm+arms+array+assemble+assemble_expr+bodies+branches+case+cases+closure+default+elements+emit_call+field+inside+instance+items+matchers+mid+node+repeat+ret+switch+ternary.Proof.Common.{default-calls, default-at}

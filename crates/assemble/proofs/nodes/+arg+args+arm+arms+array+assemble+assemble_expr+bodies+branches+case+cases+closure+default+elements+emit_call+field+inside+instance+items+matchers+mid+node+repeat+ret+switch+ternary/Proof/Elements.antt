@@ -5,7 +5,7 @@ use Rattle.definitions.specs.Lower.{lowerElements}
 use Rattle.definitions.specs.Tree.{exprsOf}
 use borrow.Author.Needs.{needs}
 use native.Mathlib.Omega.{arith}
-use Prim.Native.Nat.{ℕ, _+_, _*_, _-_, _<_}
+use Prim.Native.Nat.{ℕ, _-_}
 use Rattle.assemble.proofs.nodes.elements.Reads as elements
 use Rattle.assemble.proofs.nodes.+arg+args+arm+arms+array+assemble+assemble_expr+bodies+branches+case+cases+closure+default+elements+emit_call+field+inside+instance+items+matchers+mid+node+repeat+ret+switch+ternary.Lts-elements as elements-lts
 use Rattle.assemble.proofs.nodes.+arg+args+arm+arms+array+assemble+assemble_expr+bodies+branches+case+cases+closure+default+elements+emit_call+field+inside+instance+items+matchers+mid+node+repeat+ret+switch+ternary.Proof.Common.{elements-calls, elements-at}

@@ -1,10 +1,10 @@
 use Rattle.steps.proofs.StepLaws.{recode, both, fresh, emitted, labelled}
 use Rattle.assemble.proofs.ExprCode.{field-here, struct-field, object-field}
 use Rattle.steps.proofs.RunLaws.{expr-placed}
-use mathlib.Core.Path.{refl, sym, _∙_}
+use mathlib.Core.Path.{refl, _∙_}
 use borrow.Author.Needs.{needs}
 use native.Mathlib.Omega.{arith}
-use Prim.Native.Nat.{ℕ, _+_, _*_, _-_, _<_}
+use Prim.Native.Nat.{ℕ}
 use Rattle.assemble.proofs.nodes.field.Reads as field
 use Rattle.assemble.proofs.nodes.+arg+args+arm+arms+array+assemble+assemble_expr+bodies+branches+case+cases+closure+default+elements+emit_call+field+inside+instance+items+matchers+mid+node+repeat+ret+switch+ternary.Lts-field as field-lts
 use Rattle.assemble.proofs.nodes.+arg+args+arm+arms+array+assemble+assemble_expr+bodies+branches+case+cases+closure+default+elements+emit_call+field+inside+instance+items+matchers+mid+node+repeat+ret+switch+ternary.Proof.Common.{field-calls, field-at}

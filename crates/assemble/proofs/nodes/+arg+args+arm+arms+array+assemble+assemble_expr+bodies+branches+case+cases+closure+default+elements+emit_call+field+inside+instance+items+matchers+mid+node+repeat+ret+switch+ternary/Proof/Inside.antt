@@ -4,7 +4,7 @@ use Rattle.assemble.proofs.StmtCode.{a-default}
 use Rattle.assemble.proofs.MidLaws.{is-there, cased-at, cased-one, counted-at, as-inside, inside-mid, inside-none, inside-last, mid-here}
 use borrow.Author.Needs.{needs}
 use native.Mathlib.Omega.{arith}
-use Prim.Native.Nat.{ℕ, _+_, _*_, _-_, _<_}
+use Prim.Native.Nat.{ℕ, _+_, _<_}
 use Rattle.assemble.proofs.nodes.inside.Reads as inside
 use Rattle.assemble.proofs.nodes.+arg+args+arm+arms+array+assemble+assemble_expr+bodies+branches+case+cases+closure+default+elements+emit_call+field+inside+instance+items+matchers+mid+node+repeat+ret+switch+ternary.Lts-inside as inside-lts
 use Rattle.assemble.proofs.nodes.+arg+args+arm+arms+array+assemble+assemble_expr+bodies+branches+case+cases+closure+default+elements+emit_call+field+inside+instance+items+matchers+mid+node+repeat+ret+switch+ternary.Proof.Common.{inside-calls, inside-at}

@@ -1,11 +1,11 @@
-use Rattle.assemble.proofs.CaseLaws.{HeadsRest, heads-start, heads-turn, heads-arm, heads-next, heads-end}
+use Rattle.assemble.proofs.CaseLaws.{HeadsRest, heads-start, heads-arm, heads-next, heads-end}
 use Rattle.steps.specs.Walked.{codeOf, armsFrom}
 use Rattle.definitions.specs.Lower.{lowerMatchers}
 use Rattle.definitions.specs.Tree.{casesOf}
 use mathlib.Core.Path.{refl}
 use borrow.Author.Needs.{needs}
 use native.Mathlib.Omega.{arith}
-use Prim.Native.Nat.{ℕ, _+_, _*_, _-_, _<_}
+use Prim.Native.Nat.{ℕ, _+_, _-_, _<_}
 use Rattle.assemble.proofs.nodes.matchers.Reads as matchers
 use Rattle.assemble.proofs.nodes.+arg+args+arm+arms+array+assemble+assemble_expr+bodies+branches+case+cases+closure+default+elements+emit_call+field+inside+instance+items+matchers+mid+node+repeat+ret+switch+ternary.Lts-matchers as matchers-lts
 use Rattle.assemble.proofs.nodes.+arg+args+arm+arms+array+assemble+assemble_expr+bodies+branches+case+cases+closure+default+elements+emit_call+field+inside+instance+items+matchers+mid+node+repeat+ret+switch+ternary.Proof.Common.{matchers-calls, matchers-at}

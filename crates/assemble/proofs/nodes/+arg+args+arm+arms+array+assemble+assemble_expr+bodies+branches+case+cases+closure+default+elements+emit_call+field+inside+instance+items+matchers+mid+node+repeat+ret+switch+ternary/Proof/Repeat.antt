@@ -2,11 +2,11 @@ use Rattle.ir.specs.declared.Class.the-variants.{Statement}
 use Rattle.steps.proofs.StepLaws.{recode, rescope, both, fresh, emitted, labelled}
 use Rattle.assemble.proofs.StmtCode.{while-here}
 use Rattle.steps.proofs.RunLaws.{stmt-placed}
-use Rattle.steps.specs.Walked.{spanOf, fillCode}
-use mathlib.Core.Path.{refl, ap}
+use Rattle.steps.specs.Walked.{spanOf}
+use mathlib.Core.Path.{refl}
 use borrow.Author.Needs.{needs}
 use native.Mathlib.Omega.{arith}
-use Prim.Native.Nat.{ℕ, _+_, _*_, _-_, _<_}
+use Prim.Native.Nat.{ℕ, _+_, _-_, _<_}
 use Rattle.assemble.proofs.nodes.repeat.Reads as repeat
 use Rattle.assemble.proofs.nodes.+arg+args+arm+arms+array+assemble+assemble_expr+bodies+branches+case+cases+closure+default+elements+emit_call+field+inside+instance+items+matchers+mid+node+repeat+ret+switch+ternary.Lts-repeat as repeat-lts
 use Rattle.assemble.proofs.nodes.+arg+args+arm+arms+array+assemble+assemble_expr+bodies+branches+case+cases+closure+default+elements+emit_call+field+inside+instance+items+matchers+mid+node+repeat+ret+switch+ternary.Proof.Common.{repeat-calls, repeat-at}

@@ -2,10 +2,10 @@ use Rattle.steps.proofs.StepLaws.{recode, both, emitted}
 use Rattle.assemble.proofs.StmtCode.{return-fits, return-nothing, return-value, return-after, return-before}
 use Rattle.steps.proofs.RunLaws.{stmt-placed}
 use Rattle.steps.specs.Walked.{spanOf}
-use mathlib.Core.Path.{refl, _∙_}
+use mathlib.Core.Path.{_∙_}
 use borrow.Author.Needs.{needs}
 use native.Mathlib.Omega.{arith}
-use Prim.Native.Nat.{ℕ, _+_, _*_, _-_, _<_}
+use Prim.Native.Nat.{ℕ}
 use Rattle.assemble.proofs.nodes.ret.Reads as ret
 use Rattle.assemble.proofs.nodes.+arg+args+arm+arms+array+assemble+assemble_expr+bodies+branches+case+cases+closure+default+elements+emit_call+field+inside+instance+items+matchers+mid+node+repeat+ret+switch+ternary.Lts-ret as ret-lts
 use Rattle.assemble.proofs.nodes.+arg+args+arm+arms+array+assemble+assemble_expr+bodies+branches+case+cases+closure+default+elements+emit_call+field+inside+instance+items+matchers+mid+node+repeat+ret+switch+ternary.Proof.Common.{ret-calls, ret-at}
