@@ -1,5 +1,5 @@
 -- The whole of `lower`: from what the reader, the dry walk and the real one ensure. Assumes nothing.
-use Prim.Native.Nat.{ℕ, _+_, _*_, _≤_, _<_}
+use Prim.Native.Nat.{ℕ, _≤_, _<_}
 use mathlib.Core.Path.{_≡_, refl, sym, ap, _∙_}
 use mathlib.Core.List.{List, [], _∷_, _++_, append-assoc}
 use native.Mathlib.Omega.{arith}
@@ -16,9 +16,10 @@ use Rattle.definitions.specs.Read.{filling, parseStmt, parseUnit}
 use Rattle.definitions.specs.Code.{Code, State}
 use Rattle.definitions.specs.Lower.{outside}
 use Rattle.definitions.specs.Lower as Lower
-use Rattle.definitions.specs.Listing.{listingLength, recordsBytes, listingBytes, recordLimit}
-use Rattle.definitions.specs.Stage.{labelled, lowered, lowerInto, over}
-use Rattle.instr.specs.Values.{frontFits, frontWritten}
+use Rattle.definitions.specs.Listing.{frontLength, listingLength, recordsBytes, listingBytes, recordLimit}
+use Rattle.definitions.specs.Stage.{labelled, lowered, lowerInto, over, lowerTo}
+use Rattle.instr.specs.Values.{front, frontFits, frontWritten}
+use Rattle.instr.proofs.WholeLaws.{length-listing}
 use Rattle.ir.specs.Verdict.{scripted}
 use Rattle.ir.specs.declared.Refusal.{Refusal}
 use Rattle.ir.specs.declared.ReadUnit.{ReadUnit}
@@ -27,7 +28,7 @@ use Rattle.ir.specs.declared.Class.the-variants.{Statement}
 use Rattle.ir.proofs.UnitPlaces.{unit-at}
 use Rattle.steps.specs.Running.{Cells, run}
 use Rattle.steps.specs.Walked.{Accepted, codeOf, fillCode, ran, targetOf, spanOf, Did}
-use Rattle.assemble.specs.Whole.{unitCode, zeros, answer, lowerTo}
+use Rattle.assemble.specs.Whole.{unitCode, zeros, answer}
 use Rattle.assemble.specs.declared
 use Rattle.steps.specs.declared.Counters.{Counters}
 use Rattle.steps.specs.declared.Target.the-variants.{Nowhere}
@@ -38,7 +39,7 @@ use Rattle.assemble.proofs.StmtCode.{block-code}
 use Rattle.assemble.proofs.MidLaws.{code-is}
 use Rattle.laws.proofs.Inversion.{refusal-not-made}
 use Rattle.laws.proofs.Results.{made-is}
-use Rattle.assemble.proofs.WholeLaws.{length-records, Totals, unit-stopped, unit-totals, unit-wrote}
+use Rattle.assemble.proofs.WholeLaws.{Totals, unit-stopped, unit-totals, unit-wrote}
 
 -- 1. What the reader says of a unit
 
@@ -107,30 +108,26 @@ over-is : (w b : List ℕ) (n : ℕ) → length w ≡ n → over w b ≡ w ++ dr
 unfolding over
 over-is w b n e = ap (λ k. w ++ drop k b) e
 
-front-is : (n : ℕ) (o : List ℕ) → n ≤ recordLimit → 5 ≤ length o → frontWritten n o ≡ (1 ∷ bytes 4 (18 * n)) ++ drop 5 o
+front-is : (n : ℕ) (o : List ℕ) → n ≤ recordLimit → frontLength ≤ length o → frontWritten n o ≡ front n ++ drop frontLength o
 unfolding frontWritten frontFits
-front-is n o m h = rw (frontWritten, frontFits, le-leb n recordLimit m, le-leb 5 (length o) h)
+front-is n o m h = rw (frontWritten, frontFits, le-leb n recordLimit m, le-leb frontLength (length o) h)
 
-listing-is : (is : List Instr) → listingBytes is ≡ (1 ∷ bytes 4 (18 * length is)) ++ recordsBytes is
+listing-is : (is : List Instr) → listingBytes is ≡ front (length is) ++ recordsBytes is
 unfolding listingBytes
 listing-is is = refl
 
-listing-long : (is : List Instr) → length (listingBytes is) ≡ listingLength (length is)
-unfolding listingBytes bytes
-listing-long is = omega (arith, length-records is)
-
 front-over : (n : ℕ) (is : List Instr) (o o₂ : List ℕ) → n ≡ length is → length is ≤ recordLimit → listingLength (length is) ≤ length o →
-    o₂ ≡ (take 5 o ++ recordsBytes is) ++ drop (listingLength (length is)) o → frontWritten n o₂ ≡ over (listingBytes is) o
+    o₂ ≡ (take frontLength o ++ recordsBytes is) ++ drop (listingLength (length is)) o → frontWritten n o₂ ≡ over (listingBytes is) o
 front-over n is o o₂ e few h q =
-    let front : length (take 5 o) ≡ 5 = length-take-le 5 o (omega (arith, h)) in
+    let five : length (take frontLength o) ≡ frontLength = length-take-le frontLength o (omega (arith, h)) in
     let D = drop (listingLength (length is)) o in
     let R = recordsBytes is in
-    let F : List ℕ = 1 ∷ bytes 4 (18 * length is) in
-    let z : o₂ ≡ take 5 o ++ (R ++ D) = q ∙ append-assoc (take 5 o) R D in
-    let long : 5 ≤ length o₂ = omega (arith, ap length z, length-append (take 5 o) (R ++ D), front) in
-    let d : drop 5 o₂ ≡ R ++ D = ap (drop 5) z ∙ drop-at (take 5 o) (R ++ D) 5 front in
-    front-is n o₂ (omega (arith, e, few)) long ∙ ap {B = List ℕ} (λ k. (1 ∷ bytes 4 (18 * k)) ++ drop 5 o₂) e ∙ ap (λ y. F ++ y) d ∙ sym (append-assoc F R D)
-    ∙ ap (λ y. y ++ D) (sym (listing-is is)) ∙ sym (over-is (listingBytes is) o _ (listing-long is))
+    let F : List ℕ = front (length is) in
+    let z : o₂ ≡ take frontLength o ++ (R ++ D) = q ∙ append-assoc (take frontLength o) R D in
+    let long : frontLength ≤ length o₂ = omega (arith, ap length z, length-append (take frontLength o) (R ++ D), five) in
+    let d : drop frontLength o₂ ≡ R ++ D = ap (drop frontLength) z ∙ drop-at (take frontLength o) (R ++ D) frontLength five in
+    front-is n o₂ (omega (arith, e, few)) long ∙ ap {B = List ℕ} (λ k. front k ++ drop frontLength o₂) e ∙ ap (λ y. F ++ y) d ∙ sym (append-assoc F R D)
+    ∙ ap (λ y. y ++ D) (sym (listing-is is)) ∙ sym (over-is (listingBytes is) o _ (length-listing is))
 
 -- 5. What `lower` answers
 
@@ -177,14 +174,14 @@ module _ (s o m o₁ m₁ : List ℕ) (r : Walk) (acc : Accepted (parseUnit s)) 
     totals : Totals s (acc .0) (acc .1) (acc .2) (cellsOf k [] [])
     totals = unit-totals s (acc .0) (acc .1) (acc .2) [] [] (cellsOf k [] []) (runs-to r k [] [] [] [] e (dry .0))
 
-    pub answer-20 : length o₁ < 5 + 18 * k .count → answer (Refused (record { number = 20; place = 0; extra = 0 })) o₁ m₁ ≡ lowerTo theAnswer o m
+    pub answer-20 : length o₁ < listingLength (k .count) → answer (Refused (record { number = 20; place = 0; extra = 0 })) o₁ m₁ ≡ lowerTo theAnswer o m
     unfolding checked
     answer-20 h =
         let t = totals in
         let g : length o < listingLength (length (t .state .instrs)) = omega (arith, h, ap length (dry .1), t .count) in
         rw (dry .1, dry .2) (stopped-answer _ theAnswer o m (room-is s (length o) (length m) (t .state) (t .whole) ∙ rw (lt-leb (listingLength (length (t .state .instrs))) (length o) g)))
 
-    pub answer-21 : 5 + 18 * k .count ≤ length o₁ → length m₁ < k .labels → answer (Refused (record { number = 21; place = 0; extra = 0 })) o₁ m₁ ≡ lowerTo theAnswer o m
+    pub answer-21 : listingLength (k .count) ≤ length o₁ → length m₁ < k .labels → answer (Refused (record { number = 21; place = 0; extra = 0 })) o₁ m₁ ≡ lowerTo theAnswer o m
     unfolding checked
     answer-21 h l =
         let t = totals in
@@ -195,7 +192,7 @@ module _ (s o m o₁ m₁ : List ℕ) (r : Walk) (acc : Accepted (parseUnit s)) 
     pub answer-never : {X : Type 0} (z : Walk) (n : Refusal) (o₂ m₂ : List ℕ) → z ≡ Stopped n → ran z o₂ m₂ ≡ run (unitCode s) (zeros o₁ m₁) → X
     answer-never z n o₂ m₂ q w = refusal-not-made (sym (sym (totals .whole) ∙ halted-is z n o₂ m₂ o₁ m₁ q w))
 
-    pub answer-done : (z : Walk) (d : Counters) (o₂ m₂ o₃ : List ℕ) → z ≡ Going d → 5 + 18 * k .count ≤ length o₁ → k .labels ≤ length m₁ →
+    pub answer-done : (z : Walk) (d : Counters) (o₂ m₂ o₃ : List ℕ) → z ≡ Going d → listingLength (k .count) ≤ length o₁ → k .labels ≤ length m₁ →
         ran z o₂ m₂ ≡ run (unitCode s) (zeros o₁ m₁) → o₃ ≡ frontWritten (d .count) o₂ → answer (Done d) o₃ m₂ ≡ lowerTo theAnswer o m
     unfolding checked
     answer-done z d o₂ m₂ o₃ q h l w f =

@@ -1,5 +1,5 @@
 -- The walk's running against the definition's. Assumes nothing.
-use Prim.Native.Nat.{ℕ, _+_, _-_, _*_, _%_, _^_, _≤_, _<_}
+use Prim.Native.Nat.{ℕ, _+_, _-_, _%_, _^_, _≤_, _<_}
 use mathlib.Core.Path.{_≡_, refl, sym, ap, _∙_, subst}
 use mathlib.Core.Bool.{Bool, true, false}
 use mathlib.Core.List.{List, [], _∷_, _++_, append-nil, append-assoc}
@@ -10,8 +10,8 @@ use lib.Seq.{length-take-le, take-at, drop-append-add, drop-drop, set-append-lef
 use Rattle.steps.proofs.StepLaws.{set-out}
 use Rattle.definitions.specs.Bytes.{bytes}
 use borrow.Author.Tests.{le-leb, ltb-true, ltb-false}
-use Rattle.definitions.specs.Instr.{Instr, size, recordBytes}
-use Rattle.definitions.specs.Listing.{listingLength, recordsBytes, recordLimit}
+use Rattle.definitions.specs.Instr.{Instr, size, recordLength, recordBytes}
+use Rattle.definitions.specs.Listing.{frontLength, listingLength, recordsBytes, recordLimit}
 use Rattle.definitions.specs.Code.{Action, new, mark, emit, refuse, Code, done, act, _then_, label, State, step, execute, unmarked, labelLimit}
 use Rattle.definitions.specs.Answer.{ok, made, refusal, Result, onward, checked}
 use Rattle.definitions.specs.Tree.{Script}
@@ -19,6 +19,7 @@ use Rattle.definitions.specs.Read.{parseUnit}
 use Rattle.definitions.specs.Code.{start}
 use Rattle.definitions.specs.Lower.{codeOf}
 use Rattle.definitions.specs.Stage.{labelled, lowered}
+use Rattle.instr.proofs.WholeLaws.{length-records-bytes}
 use Rattle.landing.proofs.Theorem.{bounded}
 use Rattle.ir.proofs.UnitPlaces.{unit-at}
 use Rattle.assemble.specs.Whole.{zeros}
@@ -106,7 +107,7 @@ grows (label at f) t t′ e = let k = onward-is (step (new at) t) (execute (f (l
 -- 3. With room: the definition's lists, then what stood there
 
 pub record Wrote (o m : List ℕ) (c : Cells) (t : State) : Type 0 where
-  pub out : c .out ≡ (take 5 o ++ recordsBytes (t .instrs)) ++ drop (listingLength (length (t .instrs))) o
+  pub out : c .out ≡ (take frontLength o ++ recordsBytes (t .instrs)) ++ drop (listingLength (length (t .instrs))) o
   pub marks : c .marks ≡ t .marks ++ drop (length (t .marks)) m
 
 -- the whole fits, and no counter has wrapped
@@ -119,35 +120,26 @@ pub record Fits (o m : List ℕ) (t : State) : Type 0 where
 fits-before : {o m : List ℕ} {t t′ : State} → Grows t t′ → Fits o m t′ → Fits o m t
 fits-before g f = record { offset = omega (arith, g .offset, f .offset); count = omega (arith, g .count, f .count); bytes = omega (arith, g .count, f .bytes); words = omega (arith, g .labels, f .words) }
 
-length-record : (i : Instr) → length (recordBytes i) ≡ 18
-unfolding recordBytes bytes
-length-record i = refl
-
-pub length-records : (is : List Instr) → length (recordsBytes is) ≡ 18 * length is
-unfolding recordsBytes
-length-records [] = refl
-length-records (i ∷ is) = rw (length-append (recordBytes i) (recordsBytes is), length-record i, length-records is) (omega arith)
-
 records-snoc : (is : List Instr) (i : Instr) → recordsBytes (is ++ (i ∷ [])) ≡ recordsBytes is ++ recordBytes i
 unfolding recordsBytes
 records-snoc [] i = append-nil (recordBytes i)
 records-snoc (j ∷ is) i = rw (records-snoc is i) (sym (append-assoc (recordBytes j) (recordsBytes is) (recordBytes i)))
 
 put-next : (o : List ℕ) (is : List Instr) (i : Instr) → listingLength (length is + 1) ≤ length o →
-    put ((take 5 o ++ recordsBytes is) ++ drop (listingLength (length is)) o) (length is) i ≡ (take 5 o ++ recordsBytes (is ++ (i ∷ []))) ++ drop (listingLength (length is + 1)) o
+    put ((take frontLength o ++ recordsBytes is) ++ drop (listingLength (length is)) o) (length is) i ≡ (take frontLength o ++ recordsBytes (is ++ (i ∷ []))) ++ drop (listingLength (length is + 1)) o
 unfolding put
 put-next o is i h =
-    let front : length (take 5 o) ≡ 5 = length-take-le 5 o (omega arith) in
-    let p : length (take 5 o ++ recordsBytes is) ≡ listingLength (length is) = length-append (take 5 o) (recordsBytes is) ∙ omega (arith, front, length-records is) in
+    let front : length (take frontLength o) ≡ frontLength = length-take-le frontLength o (omega arith) in
+    let p : length (take frontLength o ++ recordsBytes is) ≡ listingLength (length is) = length-append (take frontLength o) (recordsBytes is) ∙ omega (arith, front, length-records-bytes is) in
     let rest : length (drop (listingLength (length is)) o) ≡ length o - listingLength (length is) = simp length-drop in
-    let whole : length ((take 5 o ++ recordsBytes is) ++ drop (listingLength (length is)) o) ≡ length o = length-append (take 5 o ++ recordsBytes is) (drop (listingLength (length is)) o) ∙ omega (arith, p, rest) in
-    let a : take (listingLength (length is)) ((take 5 o ++ recordsBytes is) ++ drop (listingLength (length is)) o) ≡ take 5 o ++ recordsBytes is = take-at (take 5 o ++ recordsBytes is) _ _ p in
-    let n : listingLength (length is + 1) ≡ length (take 5 o ++ recordsBytes is) + 18 = omega (arith, p) in
-    let b : drop (listingLength (length is + 1)) ((take 5 o ++ recordsBytes is) ++ drop (listingLength (length is)) o) ≡ drop 18 (drop (listingLength (length is)) o) =
-    ap (λ k. drop k ((take 5 o ++ recordsBytes is) ++ drop (listingLength (length is)) o)) n ∙ drop-append-add (take 5 o ++ recordsBytes is) (drop (listingLength (length is)) o) 18 in
-    let e : listingLength (length is) + 18 ≡ listingLength (length is + 1) = omega arith in
-    let d : drop 18 (drop (listingLength (length is)) o) ≡ drop (listingLength (length is + 1)) o = drop-drop 18 (listingLength (length is)) o ∙ ap (λ k. drop k o) e in
-    rw (put, whole, le-leb (listingLength (length is + 1)) (length o) h, a, b, d, records-snoc is i, ← (append-assoc (take 5 o) (recordsBytes is) (recordBytes i))) (sym (append-assoc (take 5 o ++ recordsBytes is) (recordBytes i) (drop (listingLength (length is + 1)) o)))
+    let whole : length ((take frontLength o ++ recordsBytes is) ++ drop (listingLength (length is)) o) ≡ length o = length-append (take frontLength o ++ recordsBytes is) (drop (listingLength (length is)) o) ∙ omega (arith, p, rest) in
+    let a : take (listingLength (length is)) ((take frontLength o ++ recordsBytes is) ++ drop (listingLength (length is)) o) ≡ take frontLength o ++ recordsBytes is = take-at (take frontLength o ++ recordsBytes is) _ _ p in
+    let n : listingLength (length is + 1) ≡ length (take frontLength o ++ recordsBytes is) + recordLength = omega (arith, p) in
+    let b : drop (listingLength (length is + 1)) ((take frontLength o ++ recordsBytes is) ++ drop (listingLength (length is)) o) ≡ drop recordLength (drop (listingLength (length is)) o) =
+    ap (λ k. drop k ((take frontLength o ++ recordsBytes is) ++ drop (listingLength (length is)) o)) n ∙ drop-append-add (take frontLength o ++ recordsBytes is) (drop (listingLength (length is)) o) recordLength in
+    let e : listingLength (length is) + recordLength ≡ listingLength (length is + 1) = omega arith in
+    let d : drop recordLength (drop (listingLength (length is)) o) ≡ drop (listingLength (length is + 1)) o = drop-drop recordLength (listingLength (length is)) o ∙ ap (λ k. drop k o) e in
+    rw (put, whole, le-leb (listingLength (length is + 1)) (length o) h, a, b, d, records-snoc is i, ← (append-assoc (take frontLength o) (recordsBytes is) (recordBytes i))) (sym (append-assoc (take frontLength o ++ recordsBytes is) (recordBytes i) (drop (listingLength (length is + 1)) o)))
 
 mark-next : (t m : List ℕ) (l v : ℕ) → setMade (t ++ drop (length t) m) l v (length t) ≡ set t l v ++ drop (length (set t l v)) m
 unfolding setMade
@@ -220,7 +212,7 @@ zero-counts o m = record { labels = refl; count = refl; offset = refl }
 
 zero-wrote : (o m : List ℕ) → Wrote o m (zeros o m) start
 unfolding recordsBytes
-zero-wrote o m = record { out = sym (rw (append-nil (take 5 o)) (take-append-drop 5 o)); marks = refl }
+zero-wrote o m = record { out = sym (rw (append-nil (take frontLength o)) (take-append-drop frontLength o)); marks = refl }
 
 module _ (s : List ℕ) (u : Script) (next : ℕ) (read : parseUnit s ≡ ok u next) where
   -- a walk that stopped, on whatever buffers: the definition's refusal

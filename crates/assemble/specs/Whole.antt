@@ -1,13 +1,10 @@
 -- A whole unit: the code of its bytes, and what lower answers with what it leaves in the buffers.
 use Prim.Native.Nat.{ℕ}
 use mathlib.Core.List.{List}
-use lib.ListN.{length}
-use Rattle.definitions.specs.Answer.{Result, made, refusal}
 use Rattle.definitions.specs.Read.{parseUnit}
-use Rattle.definitions.specs.Code.{Code, State}
+use Rattle.definitions.specs.Code.{Code}
 use Rattle.definitions.specs.Lower as Lower
-use Rattle.definitions.specs.Listing.{listingBytes}
-use Rattle.definitions.specs.Stage.{over}
+use Rattle.definitions.specs.Stage.{Lowering, listed, turned}
 use Rattle.steps.specs.Running.{Cells}
 use Rattle.steps.specs.Walked.{codeOf}
 use Rattle.assemble.specs.declared.Lowered.{Lowered}
@@ -21,15 +18,6 @@ abbrev pub zeros : (out marks : List ℕ) → Cells
 zeros o m = record { offset = 0; labels = 0; count = 0; out = o; marks = m }
 
 -- an answer, and what the buffers hold then
-pub data Answered : Type 0 where
-  listed : (offset labels count : ℕ) (out marks : List ℕ) → Answered
-  turned : (number place extra : ℕ) (out marks : List ℕ) → Answered
-
-unfoldable pub answer : Lowered → (out marks : List ℕ) → Answered
+unfoldable pub answer : Lowered → (out marks : List ℕ) → Lowering
 answer (Done c) o m = listed (c .offset) (c .labels) (c .count) o m
 answer (Refused q) o m = turned (q .number) (q .place) (q .extra) o m
-
--- the listing and the marks over what the buffers held; a refusal leaves them
-unfoldable pub lowerTo : Result State → (out marks : List ℕ) → Answered
-lowerTo (made t) o m = listed (t .offset) (length (t .marks)) (length (t .instrs)) (over (listingBytes (t .instrs)) o) (over (t .marks) m)
-lowerTo (refusal n p x) o m = turned n p x o m

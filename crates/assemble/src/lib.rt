@@ -3,10 +3,10 @@ ghost use mathlib.Core.Path.{_≡_};
 ghost use mathlib.Core.List.{[]};
 ghost use lib.ListN.{length};
 ghost use Rattle.definitions.specs.Read.{parseUnit};
-ghost use Rattle.definitions.specs.Stage.{lowerInto};
+ghost use Rattle.definitions.specs.Stage.{lowerInto, lowerTo};
 ghost use Rattle.steps.specs.Running.{run};
 ghost use Rattle.steps.specs.Walked.{Accepted, ran};
-ghost use Rattle.assemble.specs.Whole.{unitCode, zeros, answer, lowerTo};
+ghost use Rattle.assemble.specs.Whole.{unitCode, zeros, answer};
 
 mod arms;
 mod nodes;

@@ -10,7 +10,7 @@ use Rattle.definitions.specs.Read.{parseUnit}
 use Rattle.definitions.specs.Instr.{Instr, size}
 use Rattle.definitions.specs.Code.{State}
 use Rattle.definitions.specs.Lower.{lower}
-use Rattle.definitions.specs.Listing.{listingLength}
+use Rattle.definitions.specs.Listing.{listingLength, listingBytes}
 use Rattle.definitions.specs.Resolve.{resolveRecords, signed}
 
 -- 1. The labelled listing of a unit: "the whole unit is read before the walk"
@@ -33,12 +33,34 @@ lowerInto s bytes words =
 unfoldable pub over : (written before : List ℕ) → List ℕ
 over w b = w ++ drop (length w) b
 
--- 3. The stage: the resolved records of a unit, whatever room is lent
+-- 3. What an entry point answers, and what it leaves in the buffers lent to it
+
+-- lowering: the listing's total size, how many labels and records, and both buffers; or the refusal
+pub data Lowering : Type 0 where
+  listed : (offset labels count : ℕ) (out marks : List ℕ) → Lowering
+  turned : (number place extra : ℕ) (out marks : List ℕ) → Lowering
+
+-- the listing and the marks over what the buffers held; a refusal leaves them
+unfoldable pub lowerTo : Result State → (out marks : List ℕ) → Lowering
+lowerTo (made t) o m = listed (t .offset) (length (t .marks)) (length (t .instrs)) (over (listingBytes (t .instrs)) o) (over (t .marks) m)
+lowerTo (refusal n p x) o m = turned n p x o m
+
+-- resolving: how many records, and the buffer; or the refusal
+pub data Resolving : Type 0 where
+  coded : (count : ℕ) (out : List ℕ) → Resolving
+  unresolved : (number place extra : ℕ) (out : List ℕ) → Resolving
+
+-- the resolved listing over what the buffer held; a refusal leaves it
+unfoldable pub resolveTo : Result (List Instr) → (out : List ℕ) → Resolving
+resolveTo (made is) o = coded (length is) (over (listingBytes is) o)
+resolveTo (refusal n p x) o = unresolved n p x o
+
+-- 4. The stage: the resolved records of a unit, whatever room is lent
 
 unfoldable pub stage : (s : List ℕ) → Result (List Instr)
 stage s = onward (labelled s) λ l. resolveRecords (l .marks) 0 0 (l .instrs)
 
--- 4. What the program prints of a record: "start, tag, small, first and second (signed), line, flags, value"
+-- 5. What the program prints of a record: "start, tag, small, first and second (signed), line, flags, value"
 
 pub record Line : Type 0 where
   pub start : ℕ

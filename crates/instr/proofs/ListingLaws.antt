@@ -92,6 +92,12 @@ whole s e =
     let m : (length s - frontLength) % recordLength ≡ 0 = eqb-true ((length s - frontLength) % recordLength) 0 (q .1) in
     omega (arith, h, m, div-add-mod' (length s - frontLength) recordLength)
 
+pub few : (s : List ℕ) → listingFront s ≡ true → countOf s ≤ recordLimit
+unfolding listingFront
+few s e =
+    let front = leb frontLength (length s) && eqb (getD s 0 0) 1 && eqb (frontLength + number 4 s 1) (length s) && eqb ((length s - frontLength) % recordLength) 0 in
+    leb-true (countOf s) recordLimit (and-eq-true-iff front (leb (countOf s) recordLimit) .0 e .1)
+
 pub fits-whole : (s : List ℕ) (n : ℕ) → listingFront s ≡ true → n ≡ countOf s → listingLength n ≤ length s
 fits-whole s n f e = let h : listingLength n ≡ length s = rw e (whole s f) in omega arith
 

@@ -16,7 +16,7 @@ use Rattle.laws.proofs.Widths.{AllWithin}
 use Rattle.instr.specs.Values.{checkedIs, counted}
 use Rattle.instr.proofs.NumberLaws.{length-bytes, read-back}
 use Rattle.instr.proofs.RecordLaws.{write-then-read}
-use Rattle.instr.proofs.ListingLaws.{whole, length-records, front-good, front-is-good}
+use Rattle.instr.proofs.ListingLaws.{whole, few, length-records, front-good, front-is-good}
 
 -- 1. A check that passed
 
@@ -28,6 +28,7 @@ passed false is n e = let z : _≡_ {A = ℕ} 0 1 = cc in absurd (omega arith)
 pub record Accepted (s : List ℕ) (n : ℕ) : Type 0 where
   pub reads : readListing s ≡ made (recordsOf s)
   pub count : n ≡ countOf s
+  pub few : n ≤ recordLimit
   pub fills : listingLength n ≡ length s
   pub good : allGood (recordsOf s) ≡ true
 
@@ -37,18 +38,22 @@ accepted s n e =
     let q = passed (listingFront s && allGood (recordsOf s)) (recordsOf s) n e in
     let b = and-eq-true-iff (listingFront s) (allGood (recordsOf s)) .0 (q .0) in
     let m : n ≡ countOf s = q .1 ∙ length-records (countOf s) s frontLength in
-    record { reads = rw (b .0, b .1); count = m; fills = rw m (whole s (b .0)); good = b .1 }
+    record { reads = rw (b .0, b .1); count = m; few = rw m (few s (b .0)); fills = rw m (whole s (b .0)); good = b .1 }
 
 -- 2. Written, then read
 
-length-record : (i : Instr) → length (recordBytes i) ≡ recordLength
+pub length-record : (i : Instr) → length (recordBytes i) ≡ recordLength
 unfolding recordBytes bytes
 length-record i = refl
 
-length-records-bytes : (is : List Instr) → length (recordsBytes is) ≡ recordLength * length is
+pub length-records-bytes : (is : List Instr) → length (recordsBytes is) ≡ recordLength * length is
 unfolding recordsBytes
 length-records-bytes [] = refl
 length-records-bytes (i ∷ is) = rw (length-append (recordBytes i) (recordsBytes is), length-record i, length-records-bytes is) (omega arith)
+
+pub length-listing : (is : List Instr) → length (listingBytes is) ≡ listingLength (length is)
+unfolding listingBytes
+length-listing is = let w = recordLength * length is in omega (arith, length-append (bytes 4 w) (recordsBytes is), length-bytes 4 w, length-records-bytes is)
 
 records-back : (is : List Instr) → AllWithin is → (p : List ℕ) → recordsFrom (length is) (p ++ recordsBytes is) (length p) ≡ is
 unfolding recordsFrom recordsBytes

@@ -17,32 +17,35 @@ use Rattle.landing.specs.Distance.{back, sizeExpr, sizeStmt, distExpr, t
 use Rattle.landing.specs.Landed.{left, filledField, filled, orElse, farField, firstFar, unlessFar, withDistances, Landed}
 use Rattle.landing.proofs.Theorem.{landing}
 
-abbrev jump : (tag first second value : ℕ) → Instr
+abbrev pub jump : (tag first second value : ℕ) → Instr
 jump t f s v = record { tag = t; small = 0; first = f; second = s; line = 0; flags = 0; value = v }
 
 -- 1. while (false) { break }
 
-abbrev script-a : Script
+abbrev pub unit-a : List ℕ
+unit-a = bytes 31 0x010000001A0000000015000000110300000003020F00000000050000000108
+
+abbrev pub script-a : Script
 script-a = record { returns = 0; body = bcons (while 10 (const 15 15 0) (bcons (break 26) bnil)) bnil }
 
 -- JumpIfFalse, FalseConst, Jump, Jump; label 0 is marked 0, label 1 is marked 10
-abbrev listing-a : State
+abbrev pub listing-a : State
 listing-a = record {
   offset = 10;
   instrs = jump Tag.JumpIfFalse 1 0 0 ∷ plain Tag.FalseConst 0 0 ∷ jump Tag.Jump 1 0 0 ∷ jump Tag.Jump 0 0 0 ∷ [];
   marks = 0 ∷ 10 ∷ [];
 }
 
-reads-a : parseUnit (bytes 31 0x010000001A0000000015000000110300000003020F00000000050000000108) ≡ ok script-a 31
+pub reads-a : parseUnit unit-a ≡ ok script-a 31
 unfolding parseUnit frontGood run unsigned byteBelow number bytes room span items filling head node exprBody exprKinds parseExpr stmtKinds parseStmt stmtBody pick ended bind give _>>=_ payload asConst constWidths asWhile asBreak exprsOf blockOf
 reads-a = refl
 
-lowers-a : lower script-a ≡ made listing-a
+pub lowers-a : lower script-a ≡ made listing-a
 unfolding execute step onward checked unmarked labelLimit lowerExpr lowerStmt jumpTo constTag rowOf rows tagSize sizes size
 lowers-a = refl
 
 landed-a : Landed script-a listing-a
-landed-a = landing (bytes 31 0x010000001A0000000015000000110300000003020F00000000050000000108) script-a 31 reads-a listing-a lowers-a
+landed-a = landing unit-a script-a 31 reads-a listing-a lowers-a
 
 -- 10, 6 and -7
 distances-a : distancesOf script-a ≡ pos 10 ∷ pos 6 ∷ negsuc 6 ∷ []

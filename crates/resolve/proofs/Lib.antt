@@ -1,0 +1,6 @@
+-- Laws that belong to no one function, and the theorem.
+mod LabelLaws
+mod PassLaws
+pub mod Delivered
+pub mod Applied
+pub mod Nops
