@@ -19,7 +19,7 @@ use Rattle.definitions.specs.Read.{parseUnit}
 use Rattle.definitions.specs.Code.{start}
 use Rattle.definitions.specs.Lower.{codeOf}
 use Rattle.definitions.specs.Stage.{labelled, lowered}
-use Rattle.instr.proofs.WholeLaws.{length-records-bytes}
+use Rattle.instr.proofs.WholeLaws.{records-snoc, length-records-bytes}
 use Rattle.landing.proofs.Theorem.{bounded}
 use Rattle.ir.proofs.UnitPlaces.{unit-at}
 use Rattle.assemble.specs.Whole.{zeros}
@@ -119,11 +119,6 @@ pub record Fits (o m : List ℕ) (t : State) : Type 0 where
 
 fits-before : {o m : List ℕ} {t t′ : State} → Grows t t′ → Fits o m t′ → Fits o m t
 fits-before g f = record { offset = omega (arith, g .offset, f .offset); count = omega (arith, g .count, f .count); bytes = omega (arith, g .count, f .bytes); words = omega (arith, g .labels, f .words) }
-
-records-snoc : (is : List Instr) (i : Instr) → recordsBytes (is ++ (i ∷ [])) ≡ recordsBytes is ++ recordBytes i
-unfolding recordsBytes
-records-snoc [] i = append-nil (recordBytes i)
-records-snoc (j ∷ is) i = rw (records-snoc is i) (sym (append-assoc (recordBytes j) (recordsBytes is) (recordBytes i)))
 
 put-next : (o : List ℕ) (is : List Instr) (i : Instr) → listingLength (length is + 1) ≤ length o →
     put ((take frontLength o ++ recordsBytes is) ++ drop (listingLength (length is)) o) (length is) i ≡ (take frontLength o ++ recordsBytes (is ++ (i ∷ []))) ++ drop (listingLength (length is + 1)) o

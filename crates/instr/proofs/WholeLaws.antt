@@ -2,7 +2,7 @@
 use Prim.Native.Nat.{ℕ, suc, _+_, _-_, _*_, _/_, _%_, _≤_}
 use mathlib.Core.Path.{_≡_, refl, ap, sym, _∙_}
 use mathlib.Core.Bool.{Bool, true, false, _&&_, and-eq-true-iff}
-use mathlib.Core.List.{List, [], _∷_, _++_, append-assoc}
+use mathlib.Core.List.{List, [], _∷_, _++_, append-assoc, append-nil}
 use native.Mathlib.Omega.{arith}
 use native.Mathlib.Nat.{div-eq-of-eq-mul-right}
 use lib.Dec.{lit<}
@@ -50,6 +50,12 @@ pub length-records-bytes : (is : List Instr) → length (recordsBytes is) ≡ re
 unfolding recordsBytes
 length-records-bytes [] = refl
 length-records-bytes (i ∷ is) = rw (length-append (recordBytes i) (recordsBytes is), length-record i, length-records-bytes is) (omega arith)
+
+-- one record more
+pub records-snoc : (is : List Instr) (i : Instr) → recordsBytes (is ++ (i ∷ [])) ≡ recordsBytes is ++ recordBytes i
+unfolding recordsBytes
+records-snoc [] i = append-nil (recordBytes i)
+records-snoc (j ∷ is) i = rw (records-snoc is i) (sym (append-assoc (recordBytes j) (recordsBytes is) (recordBytes i)))
 
 pub length-listing : (is : List Instr) → length (listingBytes is) ≡ listingLength (length is)
 unfolding listingBytes

@@ -23,7 +23,7 @@ use Rattle.instr.specs.declared.listings.Checked.the-variants.{Good, Bad}
 use Rattle.instr.specs.Values.{instrOf, checkedIs, counted, written, front, frontFits, frontWritten}
 use Rattle.instr.proofs.NumberLaws.{length-bytes}
 use Rattle.instr.proofs.ListingLaws.{length-records}
-use Rattle.instr.proofs.WholeLaws.{Accepted, accepted, length-record, length-records-bytes, length-listing}
+use Rattle.instr.proofs.WholeLaws.{records-snoc, Accepted, accepted, length-record, length-records-bytes, length-listing}
 use Rattle.ir.specs.declared.Refusal.{Refusal}
 use Rattle.resolve.specs.declared.Resolved.{Resolved}
 use Rattle.resolve.specs.declared.Resolved.the-variants.{Done, Refused}
@@ -128,11 +128,6 @@ pub record Coding (s marks : List ℕ) (count n start : ℕ) (o out : List ℕ) 
 pub coding-start : (s marks : List ℕ) (count : ℕ) (o : List ℕ) → listingLength count ≤ length o → Coding s marks count 0 0 o o
 unfolding recordsBytes
 coding-start s marks count o h = record { done = []; gone = gone-start s marks count; room = h; long = refl; wrote = sym (ap (λ y. y ++ drop frontLength o) (append-nil (take frontLength o)) ∙ take-append-drop frontLength o) }
-
-records-snoc : (is : List Instr) (j : Instr) → recordsBytes (is ++ (j ∷ [])) ≡ recordsBytes is ++ recordBytes j
-unfolding recordsBytes
-records-snoc [] j = append-nil (recordBytes j)
-records-snoc (i ∷ is) j = rw (records-snoc is j) (sym (append-assoc (recordBytes i) (recordsBytes is) (recordBytes j)))
 
 past : (p q : List ℕ) (at w : ℕ) → length p ≡ at → drop (at + w) (p ++ q) ≡ drop w q
 past p q at w l = rw (← l) (drop-append-add p q w)

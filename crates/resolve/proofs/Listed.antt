@@ -1,0 +1,66 @@
+-- A RESOLVED LISTING IS A LISTING: of good records that fit their bytes, resolving makes good records that fit them. Assumes nothing.
+use Prim.Native.Nat.{ℕ, suc, _+_, _<_, _^_}
+use mathlib.Core.Path.{_≡_, refl}
+use mathlib.Core.Bool.{Bool, true, false, not, and-eq-true-iff}
+use mathlib.Core.List.{List, [], _∷_}
+use native.Mathlib.Omega.{arith}
+use lib.Dec.{eqb}
+use lib.ListN.{getD}
+use lib.IntN.{ℤ, pos, negsuc, subℕ}
+use borrow.Author.Tests.{ltb-true}
+use Rattle.definitions.specs.Answer.{made, checked}
+use Rattle.definitions.specs.Tag.{rowOf}
+use Rattle.definitions.specs.Instr.{Instr, size, unused0, goodRecord}
+use Rattle.definitions.specs.Code.{unmarked}
+use Rattle.definitions.specs.Listing.{allGood}
+use Rattle.definitions.specs.Resolve.{inRange, word, distanceOf, resolveField, resolveRecord, resolveRecords}
+use Rattle.laws.proofs.Inversion.{refusal-not-made}
+use Rattle.laws.proofs.Results.{made-is, onward-is}
+use Rattle.laws.proofs.Widths.{Within, AllWithin}
+
+-- sixteen bits
+word-fits : (d : ℤ) → inRange d ≡ true → word d < 256 ^ 2
+unfolding inRange word
+word-fits (pos n) e = let h = ltb-true n 32768 e in omega arith
+word-fits (negsuc n) e = let h = ltb-true n 32768 e in omega arith
+
+distance-fits : (a b : Bool) (d : ℤ) (k x f : ℕ) → inRange d ≡ b → checked a 31 k x (checked b 32 k x (made (word d))) ≡ made f → f < 256 ^ 2
+unfolding checked
+distance-fits true true d k x f h e = rw (← (made-is e)) (word-fits d h)
+distance-fits true false d k x f h e = refusal-not-made e
+distance-fits false b d k x f h e = refusal-not-made e
+
+-- a field that carries a label is used, and any other stays
+pub record FieldFits (carries : Bool) (label f : ℕ) : Type 0 where
+  pub width : f < 256 ^ 2
+  pub alike : unused0 carries f ≡ unused0 carries label
+
+field-fits : (b : Bool) (marks : List ℕ) (o k x l f : ℕ) → resolveField b marks o k x l ≡ made f → l < 256 ^ 2 → FieldFits b l f
+unfolding resolveField distanceOf unused0
+field-fits true marks o k x l f e h =
+    let d = subℕ (getD marks l unmarked) o in
+    record { width = distance-fits (not (eqb (getD marks l unmarked) unmarked)) (inRange d) d k x f refl e; alike = refl }
+field-fits false marks o k x l f e h = rw (← (made-is e)) (record { width = h; alike = refl })
+
+record-fits : (marks : List ℕ) (o k : ℕ) (i r : Instr) → resolveRecord marks o k i ≡ made r → Within i → Within r × (goodRecord r ≡ goodRecord i)
+unfolding resolveRecord goodRecord
+record-fits marks o k i r e w =
+    let a = onward-is (resolveField (rowOf (i .tag) .first) marks o k 0 (i .first)) _ e in
+    let b = onward-is (resolveField (rowOf (i .tag) .second) marks o k 1 (i .second)) _ (a .2) in
+    let f = field-fits (rowOf (i .tag) .first) marks o k 0 (i .first) (a .0) (a .1) (w .first) in
+    let s = field-fits (rowOf (i .tag) .second) marks o k 1 (i .second) (b .0) (b .1) (w .second) in
+    rw (← (made-is (b .2))) (
+      record { tag = w .tag; small = w .small; first = f .width; second = s .width; line = w .line; flags = w .flags; value = w .value },
+      rw (f .alike, s .alike),
+    )
+
+pub records-listed : (marks : List ℕ) (o k : ℕ) (is rs : List Instr) → resolveRecords marks o k is ≡ made rs → AllWithin is → allGood is ≡ true → AllWithin rs × (allGood rs ≡ true)
+unfolding resolveRecords allGood
+records-listed marks o k [] rs e w g = rw (← (made-is e)) (tt, refl)
+records-listed marks o k (i ∷ is) rs e w g =
+    let a = onward-is (resolveRecord marks o k i) _ e in
+    let b = onward-is (resolveRecords marks (o + size i) (suc k) is) _ (a .2) in
+    let h = and-eq-true-iff (goodRecord i) (allGood is) .0 g in
+    let r = record-fits marks o k i (a .0) (a .1) (w .0) in
+    let rest = records-listed marks (o + size i) (suc k) is (b .0) (b .1) (w .1) (h .1) in
+    rw (← (made-is (b .2))) ((r .0, rest .0), rw (r .1, h .0, rest .1))
