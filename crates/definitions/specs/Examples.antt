@@ -16,12 +16,14 @@ use Rattle.definitions.specs.Lower.{require, isPrvalue, onePrvalue, isFl
 use Rattle.definitions.specs.Listing.{recordsBytes, listingBytes, countOf, listingFront, recordsFrom, allGood, readListing, view}
 use Rattle.definitions.specs.Resolve.{inRange, word, signed, distanceOf, resolveField, resolveRecord, resolveRecords, resolve}
 use Rattle.definitions.specs.Stage.{Line, Printed, code, refusedWith, lowered, labelled, lowerInto, stage, linesFrom, totalSize, printed}
+use Rattle.definitions.specs.Text.{letters, digit, digits, placesIn, decimal, hexadecimal, integer, fields, lineText, linesText, text}
 
 -- 1. Questions and replies
 
 pub data Question : Type 0 where
-  -- the printed stage of a unit; its labelled listing with the marks
+  -- the printed stage of a unit, and its text; its labelled listing with the marks
   stageOf : (unit : List ℕ) → Question
+  textOf : (unit : List ℕ) → Question
   labelledOf : (unit : List ℕ) → Question
   -- whether a unit's listing and label table fit so many bytes and words
   roomOf : (unit : List ℕ) → (bytes words : ℕ) → Question
@@ -31,6 +33,7 @@ pub data Question : Type 0 where
 
 pub data Reply : Type 0 where
   prints : (count total : ℕ) → List Line → Reply
+  says : List ℕ → Reply
   labels : (count total : ℕ) (marks : List ℕ) → List Line → Reply
   fits : (count labels : ℕ) → Reply
   part : List ℕ → Reply
@@ -46,6 +49,7 @@ replyPrinted (refusedWith n p x) = refuses n p x
 
 pub answer : Question → Reply
 answer (stageOf s) = replyPrinted (printed (stage s))
+answer (textOf s) = says (text (printed (stage s)))
 answer (labelledOf s) = replyOf (λ l. labels (length (l .instrs)) (l .offset) (l .marks) (linesFrom pos 0 (l .instrs))) (labelled s)
 answer (roomOf s b w) = replyOf (λ l. fits (length (l .instrs)) (length (l .marks))) (lowerInto s b w)
 answer (resolveOf s m b) = replyPrinted (printed (resolve s m b))
@@ -132,10 +136,19 @@ table =
     -- (a) while (false) { break }: starts 0, 3, 4, 7; sizes 3, 1, 3, 3; distances 10, 6 and -7
     example (stageOf (bytes 31 0x010000001A0000000015000000110300000003020F00000000050000000108)) (prints 4 10 (
     first 0 JumpIfFalse (on 10) 0 ∷ values 3 FalseConst 0 0 ∷ first 4 Jump (on 6) 0 ∷ first 7 Jump (back 7) 0 ∷ []))
+    -- (a) its text, letter by letter
+    ∷ example (textOf (bytes 31 0x010000001A0000000015000000110300000003020F00000000050000000108)) (says (
+    letters "code 4 10\n" ++
+    (letters "0 20 0 10 0 0 0 0000000000000000\n" ++
+    (letters "3 14 0 0 0 0 0 0000000000000000\n" ++
+    (letters "4 1F 0 6 0 0 0 0000000000000000\n" ++
+    letters "7 1F 0 -7 0 0 0 0000000000000000\n")))))
     -- (b) an empty block: no instruction
     ∷ example (stageOf (bytes 10 0x01000000050000000000)) (prints 0 0 [])
+    ∷ example (textOf (bytes 10 0x01000000050000000000)) (says (letters "code 0 0\n"))
     -- (c) a lone Break
     ∷ example (stageOf (bytes 15 0x010000000A00000000050000000108)) (refuses 10 10 0)
+    ∷ example (textOf (bytes 15 0x010000000A00000000050000000108)) (says (letters "refused 10 10 0\n"))
     -- (d) continue in a switch in a loop lands on JumpIfFalse
     ∷ example (stageOf (bytes 61 0x010000003800000000330000002F03000000010100000025000000210500000009000000010100000000000000000E0000000101000000050000000109)) (prints 8 28 (
     first 0 JumpIfFalse (on 28) 0 ∷ values 3 Nop 0 0 ∷ first 4 Switch (on 12) 9 ∷ values 15 Nop 0 0 ∷ both 16 SwitchLabel (on 9) (on 6) ∷
@@ -428,5 +441,19 @@ table =
 -- 4. The theorem: every question of the table has the reply that stands beside it
 
 pub examples : map (λ r. answer (r .question)) table ≡ map (λ r. r .reply) table
-unfolding table answer replyOf replyPrinted runOf nodeOf unitOf expression times nopNodes asRefNode callOf freeCallOf instanceCallOf nestBlocks listingOf bind onward checked number bytes sizes tagSize emitted rows rowOf defaultTags constTags constTag constWidths intrinsics intrinsicOf size recordBytes recordAt unused0 goodRecord exprsOf blockOf branchesOf casesOf lengthExprs lengthCases isPresent placeOf _>>=_ give unknownKind unsigned byteBelow markBytes room span items filling run head ended node pick asNop payload asConst asNull asNewInstance asConstruct asAssign asField asIndex asConditional asDynCast asLocal asIntrinsic callee arguments asFreeCall asStaticCall asInstanceCall asClosureCall exprKinds exprBody parseExpr asExpr asBlock asWhile arm blockIf asBranches asSwitch asInitArray asInitDefault asBreak asContinue returnIf asReturn stmtKinds stmtBody parseStmt frontGood parseUnit many emits unmarked labelLimit step execute require isPrvalue onePrvalue isFlagged flagsOf requireFlags weakToRef nullTag elementTag localTag lowerField lowerArg nops emitInvoke emitCall lowerExpr lowerElements lowerArray primitiveDefault defaultInstrs lowerReturn lowerReturnNothing jumpTo midDefault endsGroup inGroup lowerStmt recordsBytes listingBytes countOf listingFront recordsFrom allGood readListing view inRange word signed distanceOf resolveField resolveRecord resolveRecords resolve lowered lowerInto stage linesFrom totalSize printed
+unfolding table answer replyOf replyPrinted runOf nodeOf unitOf expression times nopNodes asRefNode callOf freeCallOf instanceCallOf nestBlocks listingOf bind onward checked number bytes sizes tagSize emitted rows rowOf defaultTags constTags constTag constWidths intrinsics intrinsicOf size recordBytes recordAt unused0 goodRecord exprsOf blockOf branchesOf casesOf lengthExprs lengthCases isPresent placeOf _>>=_ give unknownKind unsigned byteBelow markBytes room span items filling run head ended node pick asNop payload asConst asNull asNewInstance asConstruct asAssign asField asIndex asConditional asDynCast asLocal asIntrinsic callee arguments asFreeCall asStaticCall asInstanceCall asClosureCall exprKinds exprBody parseExpr asExpr asBlock asWhile arm blockIf asBranches asSwitch asInitArray asInitDefault asBreak asContinue returnIf asReturn stmtKinds stmtBody parseStmt frontGood parseUnit many emits unmarked labelLimit step execute require isPrvalue onePrvalue isFlagged flagsOf requireFlags weakToRef nullTag elementTag localTag lowerField lowerArg nops emitInvoke emitCall lowerExpr lowerElements lowerArray primitiveDefault defaultInstrs lowerReturn lowerReturnNothing jumpTo midDefault endsGroup inGroup lowerStmt recordsBytes listingBytes countOf listingFront recordsFrom allGood readListing view inRange word signed distanceOf resolveField resolveRecord resolveRecords resolve lowered lowerInto stage linesFrom totalSize printed letters digit digits placesIn decimal integer fields lineText linesText text
 examples = refl
+
+-- 5. Numbers as text
+
+pub numerals : map decimal (0 ∷ 9 ∷ 10 ∷ 99 ∷ 100 ∷ 65535 ∷ 18446744073709551615 ∷ []) ≡ map letters ("0" ∷ "9" ∷ "10" ∷ "99" ∷ "100" ∷ "65535" ∷ "18446744073709551615" ∷ [])
+unfolding letters digit digits placesIn decimal
+numerals = refl
+
+pub integers : map (λ w. integer (signed w)) (0 ∷ 32767 ∷ 32768 ∷ 65535 ∷ []) ≡ map letters ("0" ∷ "32767" ∷ "-32768" ∷ "-1" ∷ [])
+unfolding letters digit digits placesIn decimal integer signed
+integers = refl
+
+pub words : map (hexadecimal 4) (0 ∷ 0x9A ∷ 0xBCDE ∷ 0x12F ∷ []) ≡ map letters ("0000" ∷ "009A" ∷ "BCDE" ∷ "012F" ∷ [])
+unfolding letters digit digits
+words = refl

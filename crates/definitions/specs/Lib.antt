@@ -10,4 +10,5 @@ pub mod Lower
 pub mod Listing
 pub mod Resolve
 pub mod Stage
+pub mod Text
 pub mod Examples

@@ -72,12 +72,14 @@ pub record Line : Type 0 where
   pub flags : ℕ
   pub value : ℕ
 
--- the lines of records from offset `start` on, with `sign` for the labels or distances
+-- the line of a record at offset `start`, with `sign` for the labels or distances
+abbrev pub lineOf : (sign : ℕ → ℤ) (start : ℕ) → Instr → Line
+lineOf sign start i = record { start = start; tag = i .tag; small = i .small; first = sign (i .first); second = sign (i .second); line = i .line; flags = i .flags; value = i .value }
+
+-- the lines of records from offset `start` on
 unfoldable pub linesFrom : (sign : ℕ → ℤ) (start : ℕ) → List Instr → List Line
 linesFrom sign start [] = []
-linesFrom sign start (i ∷ is) =
-    record { start = start; tag = i .tag; small = i .small; first = sign (i .first); second = sign (i .second); line = i .line; flags = i .flags; value = i .value }
-    ∷ linesFrom sign (start + size i) is
+linesFrom sign start (i ∷ is) = lineOf sign start i ∷ linesFrom sign (start + size i) is
 
 -- "`code`, instruction count, total size"
 unfoldable pub totalSize : List Instr → ℕ
@@ -88,6 +90,9 @@ pub data Printed : Type 0 where
   code : (count total : ℕ) → List Line → Printed
   refusedWith : (number place extra : ℕ) → Printed
 
+abbrev pub printedAs : (sign : ℕ → ℤ) → List Instr → Printed
+printedAs sign is = code (length is) (totalSize is) (linesFrom sign 0 is)
+
 unfoldable pub printed : Result (List Instr) → Printed
-printed (made is) = code (length is) (totalSize is) (linesFrom signed 0 is)
+printed (made is) = printedAs signed is
 printed (refusal n p x) = refusedWith n p x
