@@ -1,21 +1,20 @@
--- Worked examples, computed: document 01's (a) to (i), then a row for each point that a small unit can show.
-use Prim.Native.Nat.{ℕ, zero, suc, _+_, _*_}
+-- Worked examples, computed: document 01's (a) to (i), then rows that show a decision each. Other cases are run by a program.
+use Prim.Native.Nat.{ℕ, zero, suc}
 use mathlib.Core.Path.{_≡_, refl}
-use mathlib.Core.Bool.{true, false}
 use mathlib.Core.List.{List, [], _∷_, _++_, map}
 use lib.ListN.{length}
 use lib.IntN.{ℤ, pos, negℤ}
-use Rattle.definitions.specs.Answer.{Answer, Result, made, refusal, bind, onward, checked}
+use Rattle.definitions.specs.Answer.{Result, made, refusal, bind, onward, checked}
 use Rattle.definitions.specs.Bytes.{number, bytes}
-use Rattle.definitions.specs.Tag.{Nop, Null, I32One, I32Zero, I8Const, I32Const, U64Const, CNameConst, EnumConst, StringConst, TrueConst, FalseConst, Assign, Local, Param, ObjectField, Switch, SwitchLabel, SwitchDefault, Jump, JumpIfFalse, Skip, Conditional, Construct, InvokeStatic, InvokeVirtual, ParamEnd, Return, StructField, Context, This, ArrayClear, ArrayResize, ArrayElement, StaticArrayElement, RefToBool, I32ToEnum, DynamicCast, WeakRefToRef, RefToWeakRef, WeakRefNull, AsRef, Deref, sizes, tagSize, emitted, rows, rowOf, defaultTags, constTags, constTag, constWidths, intrinsics, intrinsicOf}
-use Rattle.definitions.specs.Instr.{Instr, size, recordBytes, recordAt, unused0, goodRecord}
+use Rattle.definitions.specs.Tag.{Nop, Null, I32One, I32Zero, I8Const, I32Const, StringConst, TrueConst, FalseConst, Assign, Local, Param, Switch, SwitchLabel, SwitchDefault, Jump, JumpIfFalse, Skip, InvokeStatic, InvokeVirtual, ParamEnd, Return, Context, This, WeakRefToRef, AsRef, Deref, sizes, tagSize, emitted, rows, rowOf, defaultTags, constTags, constTag, constWidths, intrinsics, intrinsicOf}
+use Rattle.definitions.specs.Instr.{size, recordBytes, recordAt, unused0, goodRecord}
 use Rattle.definitions.specs.Tree.{exprsOf, blockOf, branchesOf, casesOf, lengthExprs, lengthCases, isPresent, placeOf}
 use Rattle.definitions.specs.Read.{_>>=_, give, unknownKind, unsigned, byteBelow, markBytes, room, span, items, filling, run, head, ended, node, pick, asNop, payload, asConst, asNull, asNewInstance, asConstruct, asAssign, asField, asIndex, asConditional, asDynCast, asLocal, asIntrinsic, callee, arguments, asFreeCall, asStaticCall, asInstanceCall, asClosureCall, exprKinds, exprBody, parseExpr, asExpr, asBlock, asWhile, arm, blockIf, asBranches, asSwitch, asInitArray, asInitDefault, asBreak, asContinue, returnIf, asReturn, stmtKinds, stmtBody, parseStmt, frontGood, parseUnit}
 use Rattle.definitions.specs.Code.{many, emits, unmarked, labelLimit, step, execute}
 use Rattle.definitions.specs.Lower.{require, isPrvalue, onePrvalue, isFlagged, flagsOf, requireFlags, weakToRef, nullTag, elementTag, localTag, lowerField, lowerArg, nops, emitInvoke, emitCall, lowerExpr, lowerElements, lowerArray, primitiveDefault, defaultInstrs, lowerReturn, lowerReturnNothing, jumpTo, midDefault, endsGroup, inGroup, lowerStmt}
 use Rattle.definitions.specs.Listing.{recordsBytes, listingBytes, countOf, listingFront, recordsFrom, allGood, readListing, view}
 use Rattle.definitions.specs.Resolve.{inRange, word, signed, distanceOf, resolveField, resolveRecord, resolveRecords, resolve}
-use Rattle.definitions.specs.Stage.{Line, Printed, code, refusedWith, lowered, labelled, lowerInto, stage, linesFrom, totalSize, printed}
+use Rattle.definitions.specs.Stage.{Line, Printed, code, refusedWith, lowered, labelled, lowerInto, stage, linesFrom, totalSize, printed, shown}
 use Rattle.definitions.specs.Text.{letters, digit, digits, placesIn, decimal, hexadecimal, integer, fields, lineText, linesText, text}
 
 -- 1. Questions and replies
@@ -98,7 +97,7 @@ unitOf s = 1 ∷ runOf (0 ∷ runOf s)
 expression : List ℕ → List ℕ
 expression e = nodeOf 1 e
 
-times : ℕ → List ℕ → List ℕ
+pub times : ℕ → List ℕ → List ℕ
 times zero s = []
 times (suc n) s = s ++ times n s
 
@@ -119,11 +118,6 @@ freeCallOf n args = nodeOf 13 (callOf n args)
 -- an instance call with so many parameters
 instanceCallOf : (params : ℕ) → (receiver args : List ℕ) → List ℕ
 instanceCallOf n e args = nodeOf 15 (0 ∷ (e ++ callOf n args))
-
--- the heads of so many blocks one in another, around k bytes
-nestBlocks : (n k : ℕ) → List ℕ
-nestBlocks zero k = []
-nestBlocks (suc n) k = bytes 4 (9 * n + k + 5) ++ (2 ∷ (bytes 4 (9 * n + k) ++ nestBlocks n k))
 
 -- a listing of one record
 listingOf : (tag first value : ℕ) → List ℕ
@@ -186,10 +180,6 @@ table =
     ∷ example (labelledOf (bytes 65 0x010000003C000000003700000033050000000900000001010000000000000000200000000101000000090000000502000000000000000101000000050000000108)) (labels 7 27 (27 ∷ 12 ∷ 18 ∷ 18 ∷ 24 ∷ 27 ∷ []) (
     first 0 Switch (on 1) 9 ∷ values 11 Nop 0 0 ∷ both 12 SwitchLabel (on 3) (on 2) ∷ values 17 Nop 0 0 ∷
     both 18 SwitchLabel (on 5) (on 4) ∷ values 23 Nop 0 0 ∷ first 24 Jump (on 0) 0 ∷ []))
-    -- a mid default at index 0: its block first, after a Jump past it
-    ∷ example (stageOf (bytes 67 0x010000003E0000000039000000350500000009000000010100000000010000001300000001010000000A000000060100000001010000000B0000000701000000020300)) (prints 8 24 (
-    first 0 Switch (on 12) 9 ∷ values 11 Nop 0 0 ∷ both 12 SwitchLabel (on 6) (on 11) ∷ values 17 Nop 0 0 ∷ values 18 SwitchDefault 0 0 ∷
-    first 19 Jump (on 3) 0 ∷ values 22 Null 0 0 ∷ values 23 Nop 0 0 ∷ []))
     -- a mid default at index 1: all matchers, SwitchDefault, Jump, then block 0, the default, block 1
     ∷ example (stageOf (bytes 86 0x0100000051000000004C000000480500000009000000010100000001010000002200000001010000000B000000070100000002030000000001010000000500000001080000000F0000000B0100000006020901020304)) (prints 11 37 (
     first 0 Switch (on 12) 9 ∷ values 11 Nop 0 0 ∷ both 12 SwitchLabel (on 6) (on 16) ∷ values 17 Nop 0 0 ∷
@@ -206,88 +196,22 @@ table =
     ∷ example (labelledOf (bytes 57 0x0100000034000000002F0000002B030000000101000000210000001D040000000E000000010100000005000000010901000000050000000108)) (labels 8 20 (0 ∷ 20 ∷ 14 ∷ 17 ∷ unmarked ∷ []) (
     first 0 JumpIfFalse (on 1) 0 ∷ values 3 Nop 0 0 ∷ first 4 JumpIfFalse (on 2) 0 ∷ values 7 Nop 0 0 ∷ first 8 Jump (on 0) 0 ∷
     first 11 Jump (on 3) 0 ∷ first 14 Jump (on 1) 0 ∷ first 17 Jump (on 0) 0 ∷ []))
-    -- InitArray of two
-    ∷ example (stageOf (bytes 37 0x0100000020000000001B000000170600000003000000090000000A00000001010000000101)) (prints 13 85 (
-    values 0 ArrayResize 0 9 ∷ values 9 Local 0 3 ∷ values 18 U64Const 0 2 ∷ values 27 Assign 0 0 ∷ values 28 ArrayElement 0 9 ∷
-    values 37 Local 0 3 ∷ values 46 U64Const 0 0 ∷ values 55 Nop 0 0 ∷ values 56 Assign 0 0 ∷ values 57 ArrayElement 0 9 ∷
-    values 66 Local 0 3 ∷ values 75 U64Const 0 1 ∷ values 84 Nop 0 0 ∷ []))
-    -- InitArray of none: nothing
-    ∷ example (stageOf (bytes 27 0x010000001600000000110000000D06000000030000000900000000)) (prints 0 0 [])
-    -- InitDefault of a variant: nothing
-    ∷ example (stageOf (bytes 24 0x0100000013000000000E0000000A07000000030000000009)) (prints 0 0 [])
-    -- of an array
-    ∷ example (stageOf (bytes 24 0x0100000013000000000E0000000A07000000030100000009)) (prints 2 18 (
-    values 0 ArrayClear 0 9 ∷ values 9 Local 0 3 ∷ []))
-    -- of a struct
-    ∷ example (stageOf (bytes 24 0x0100000013000000000E0000000A07000000030200000009)) (prints 3 20 (
-    values 0 Assign 0 0 ∷ values 1 Local 0 3 ∷ values 10 Construct 0 9 ∷ []))
-    -- of another aggregate: the index is ignored
+    -- InitDefault of another aggregate: the index is ignored
     ∷ example (stageOf (bytes 24 0x0100000013000000000E0000000A07000000030300000009)) (prints 3 11 (
     values 0 Assign 0 0 ∷ values 1 Local 0 3 ∷ values 10 Null 0 0 ∷ []))
-    -- of an enum
-    ∷ example (stageOf (bytes 24 0x0100000013000000000E0000000A07000000030400000009)) (prints 4 22 (
-    values 0 Assign 0 0 ∷ values 1 Local 0 3 ∷ values 10 I32ToEnum 1 9 ∷ values 20 I8Const 0 0 ∷ []))
     -- of a String: the index is stored
     ∷ example (stageOf (bytes 24 0x0100000013000000000E0000000A07000000030500000009)) (prints 3 15 (
     values 0 Assign 0 0 ∷ values 1 Local 0 3 ∷ values 10 StringConst 0 9 ∷ []))
-    -- of a WeakRef: the index is ignored
-    ∷ example (stageOf (bytes 24 0x0100000013000000000E0000000A07000000031500000009)) (prints 3 11 (
-    values 0 Assign 0 0 ∷ values 1 Local 0 3 ∷ values 10 WeakRefNull 0 0 ∷ []))
     -- of a primitive with no value
     ∷ example (stageOf (bytes 24 0x0100000013000000000E0000000A07000000031600000009)) (prints 2 10 (
     values 0 Assign 0 0 ∷ values 1 Local 0 3 ∷ []))
-    -- Return of a value in a unit with a return value
-    ∷ example (stageOf (bytes 21 0x0100000010010000000B000000070A010000000101)) (prints 2 2 (
-    values 0 Return 0 0 ∷ values 1 Nop 0 0 ∷ []))
-    -- Return of nothing there
+    -- Return of nothing in a unit with a return value
     ∷ example (stageOf (bytes 16 0x010000000B0100000006000000020A00)) (prints 2 2 (
     values 0 Return 0 0 ∷ values 1 Nop 0 0 ∷ []))
-    -- Return of a value in a unit without
-    ∷ example (stageOf (bytes 22 0x0100000011000000000C000000080A01000000020301)) (prints 3 3 (
-    values 0 WeakRefNull 0 0 ∷ values 1 Return 0 0 ∷ values 2 Nop 0 0 ∷ []))
     -- expressions
-    -- EnumConst: the enum in the high 32 bits
-    ∷ example (stageOf (bytes 29 0x010000001800000000130000000F010000000A0204ABCDEF0100000002)) (prints 1 17 (
-    values 0 EnumConst 0 0xABCDEF0100000002 ∷ []))
-    -- an I8 is zero-extended
-    ∷ example (stageOf (bytes 22 0x0100000011000000000C0000000801000000030207FF)) (prints 1 2 (
-    values 0 I8Const 0 255 ∷ []))
-    -- a field of a struct; of an object by weak reference: Context lands past ObjectField
-    ∷ example (stageOf (bytes 45 0x010000002800000000230000001F010000001A07000000000400000010070200000005000000060B0000000006)) (prints 5 23 (
-    values 0 StructField 0 4 ∷ first 9 Context (on 14) 0 ∷ values 12 WeakRefToRef 0 0 ∷ values 13 This 0 0 ∷ values 14 ObjectField 0 5 ∷ []))
-    -- Conditional: else part; past it
-    ∷ example (stageOf (bytes 42 0x010000002500000000200000001C01000000170900000003020F01000000060B01000000070000000101)) (prints 4 16 (
-    both 0 Conditional (on 15) (on 16) ∷ values 5 TrueConst 0 0 ∷ values 6 Local 0 7 ∷ values 15 Nop 0 0 ∷ []))
-    -- DynCast, Index and Assign
-    ∷ example (stageOf (bytes 55 0x0100000032000000002D000000290100000024060000000B0A000000080100000001010000001008000000000900000001010000000101)) (prints 6 23 (
-    values 0 Assign 0 0 ∷ values 1 DynamicCast 1 8 ∷ values 11 Nop 0 0 ∷ values 12 StaticArrayElement 0 9 ∷ values 21 Nop 0 0 ∷
-    values 22 Nop 0 0 ∷ []))
-    -- RefToWeakRef: its index is ignored
-    ∷ example (stageOf (bytes 36 0x010000001F000000001A0000001601000000110C1E000100000005000000050000000101)) (prints 2 2 (
-    values 0 RefToWeakRef 0 0 ∷ values 1 Nop 0 0 ∷ []))
-    -- and so is that of IsDefined
-    ∷ example (stageOf (bytes 31 0x010000001A000000001500000011010000000C0C2000000000000500000000)) (prints 1 1 (
-    values 0 RefToBool 0 0 ∷ []))
-    -- IntEnum and LongIntEnum: sizes 4 and 8
-    ∷ example (stageOf (bytes 52 0x010000002F000000002A00000011010000000C0C140001000000050000000000000011010000000C0C1500010000000500000000)) (prints 2 20 (
-    values 0 I32ToEnum 4 5 ∷ values 10 I32ToEnum 8 5 ∷ []))
-    -- local form 3: the ObjectField of a capture
-    ∷ example (stageOf (bytes 25 0x0100000014000000000F0000000B01000000060B0300000004)) (prints 1 9 (
-    values 0 ObjectField 0 4 ∷ []))
-    -- NameOf
-    ∷ example (stageOf (bytes 31 0x010000001A000000001500000011010000000C0C2100010000000500000000)) (prints 1 9 (
-    values 0 CNameConst 0 5 ∷ []))
     -- a closure call: Context lands on its InvokeVirtual
     ∷ example (stageOf (bytes 45 0x010000002800000000230000001F010000001A10000000060B000000000000000006004D000000050000000101)) (prints 5 21 (
     first 0 Context (on 4) 0 ∷ values 3 This 0 0 ∷ invokes 4 InvokeVirtual (on 17) 77 0 6 ∷ values 19 Nop 0 0 ∷ values 20 ParamEnd 0 0 ∷ []))
-    -- its labels: the Context's, then those of the closure, here a field's, then its exit
-    ∷ example (labelledOf (bytes 45 0x010000002800000000230000001F010000001A100000000B070100000004000000010100000006004D00000000)) (labels 6 32 (16 ∷ 16 ∷ 32 ∷ []) (
-    first 0 Context (on 0) 0 ∷ first 3 Context (on 1) 0 ∷ values 6 Nop 0 0 ∷ values 7 ObjectField 0 4 ∷
-    invokes 16 InvokeVirtual (on 2) 77 0 6 ∷ values 31 ParamEnd 0 0 ∷ []))
-    -- the closure itself a call
-    ∷ example (stageOf (bytes 51 0x010000002E000000002900000025010000002010000000110D0000000100000002000B01000000000000000006004D00000000)) (prints 5 35 (
-    first 0 Context (on 19) 0 ∷ invokes 3 InvokeStatic (on 16) 11 0 1 ∷ values 18 ParamEnd 0 0 ∷ invokes 19 InvokeVirtual (on 16) 77 0 6 ∷
-    values 34 ParamEnd 0 0 ∷ []))
     -- an instance call by weak reference, a Skip and an absent parameter
     ∷ example (stageOf (bytes 57 0x0100000034000000002F0000002B01000000260F01000000060B02000000040000000500000006000708030100010000000700000003020F01)) (prints 9 35 (
     first 0 Context (on 35) 0 ∷ values 3 WeakRefToRef 0 0 ∷ values 4 Param 0 4 ∷ invokes 13 InvokeStatic (on 22) 7 0 5 ∷
@@ -295,112 +219,26 @@ table =
     -- a static call: a label that nothing carries
     ∷ example (labelledOf (bytes 36 0x010000001F000000001A0000001601000000110E00000005000000060007000000000000)) (labels 2 16 (16 ∷ 16 ∷ []) (
     invokes 0 InvokeVirtual (on 1) 7 0 6 ∷ values 15 ParamEnd 0 0 ∷ []))
-    -- ForceStatic: InvokeStatic with the function
-    ∷ example (stageOf (bytes 36 0x010000001F000000001A0000001601000000110E00000005000000060007080000000000)) (prints 2 16 (
-    invokes 0 InvokeStatic (on 16) 7 0 5 ∷ values 15 ParamEnd 0 0 ∷ []))
     -- an absent short-circuit parameter: a Nop and no Skip
     ∷ example (stageOf (bytes 37 0x0100000020000000001B0000001701000000120D0000000500000006000701010100000000)) (prints 3 17 (
     invokes 0 InvokeStatic (on 17) 7 0 5 ∷ values 15 Nop 0 0 ∷ values 16 ParamEnd 0 0 ∷ []))
-    -- a flagged argument: the second of two
-    ∷ example (stageOf (bytes 64 0x010000003B000000003600000032010000002D0D00000001000000020003000200000000001A0000000101000000110C1C000100000007000000050000000101)) (prints 5 27 (
-    invokes 0 InvokeVirtual (on 27) 3 2 2 ∷ values 15 Nop 0 0 ∷ values 16 AsRef 0 7 ∷ values 25 Nop 0 0 ∷ values 26 ParamEnd 0 0 ∷ []))
     -- AsRef of a Deref is not flagged
     ∷ example (stageOf (bytes 74 0x010000004500000000400000003C01000000370D0000000100000002000300010000000025000000210C1C00010000000700000015000000110C1D000100000007000000050000000101)) (prints 5 35 (
     invokes 0 InvokeVirtual (on 35) 3 0 2 ∷ values 15 AsRef 0 7 ∷ values 24 Deref 0 7 ∷ values 33 Nop 0 0 ∷ values 34 ParamEnd 0 0 ∷ []))
     -- the walk refuses
-    -- a flagged argument at index 16: place that argument, extra 17
-    ∷ example (stageOf (unitOf (expression (freeCallOf 20 (nopNodes 16 ++ (asRefNode 0 ++ nopNodes 3)))))) (refuses 13 136 17)
     -- flagged arguments at index 0 to 16 that are refused by 14 too: 13 is first
     ∷ example (stageOf (unitOf (expression (freeCallOf 17 (times 17 (asRefNode 1)))))) (refuses 13 389 17)
-    -- Construct with 256: 12 comes before the arguments, of which the first would be refused with 14
-    ∷ example (stageOf (unitOf (expression (nodeOf 5 (bytes 4 7 ++ runOf (bytes 16 0x0000000C0C2000010000000700000000 ++ nopNodes 255)))))) (refuses 12 15 256)
-    -- an intrinsic with a short-circuit mark
-    ∷ example (stageOf (bytes 58 0x010000003500000000300000002C01000000270D0000000100000002000300010000000015000000110C1C010100000007000000050000000101)) (refuses 14 37 0)
-    -- an intrinsic with a type argument too many
-    ∷ example (stageOf (bytes 36 0x010000001F000000001A0000001601000000110C20000100000007000000050000000101)) (refuses 14 15 0)
-    -- and with one too few
-    ∷ example (stageOf (bytes 36 0x010000001F000000001A0000001601000000110C1C000000000007000000050000000101)) (refuses 14 15 0)
     -- with a mid default all matchers come before all blocks: the second matcher's 14 is met before the first block's 11
     ∷ example (stageOf (bytes 71 0x0100000042000000003D000000390500000009000000010100000000010000002200000001010000000500000001090000000C0C20000100000007000000000000000000000000)) (refuses 14 47 0)
-    -- and the default block before case default_index: of two continues, the one in the default is met first
-    ∷ example (stageOf (bytes 65 0x010000003C000000003700000033050000000900000001010000000101000000170000000101000000000000000101000000050000000109000000050000000109)) (refuses 11 60 0)
-    -- 14 comes before the arguments
-    ∷ example (stageOf (bytes 47 0x010000002A000000002500000021010000001C0C20000100000007000000100000000C0C2000010000000700000000)) (refuses 14 15 0)
     -- an instance call's receiver comes before its flags: 14 of the receiver, not 13
     ∷ example (stageOf (unitOf (expression (instanceCallOf 17 (bytes 16 0x0000000C0C2000010000000700000000) (times 17 (asRefNode 0)))))) (refuses 14 21 0)
-    -- reading refuses: 1, the front
-    -- under 6 bytes
-    ∷ example (stageOf (bytes 5 0x0100000000)) (refuses 1 0 0)
-    -- version
-    ∷ example (stageOf (bytes 6 0x020000000100)) (refuses 1 0 0)
-    -- length
-    ∷ example (stageOf (bytes 6 0x010000000200)) (refuses 1 0 0)
-    -- return byte
-    ∷ example (stageOf (bytes 6 0x010000000102)) (refuses 1 0 0)
-    -- 3, what does not fit, and what is left over
-    -- no block
-    ∷ example (stageOf (bytes 6 0x010000000100)) (refuses 3 6 0)
-    -- the block runs past the unit
-    ∷ example (stageOf (bytes 10 0x01000000050000000001)) (refuses 3 6 0)
-    -- a byte after the block
-    ∷ example (stageOf (bytes 11 0x0100000006000000000000)) (refuses 3 6 0)
-    -- three bytes left in the block: a node without a length
-    ∷ example (stageOf (bytes 13 0x01000000080000000003000000)) (refuses 3 10 0)
-    -- a node without a kind
-    ∷ example (stageOf (bytes 14 0x0100000009000000000400000000)) (refuses 3 10 0)
-    -- a node past its holder
-    ∷ example (stageOf (bytes 15 0x010000000A00000000050000000208)) (refuses 3 10 0)
-    -- bytes left in a Break
-    ∷ example (stageOf (bytes 16 0x010000000B0000000006000000020800)) (refuses 3 10 0)
-    -- a missing expression: a node where it would begin
-    ∷ example (stageOf (bytes 15 0x010000000A00000000050000000101)) (refuses 3 15 0)
-    -- a missing block: its own place
-    ∷ example (stageOf (bytes 20 0x010000000F000000000A00000006030000000101)) (refuses 3 20 0)
-    -- a condition without its block
+    -- reading refuses
+    -- a condition without its block: 3, where the block would stand
     ∷ example (stageOf (bytes 25 0x0100000014000000000F0000000B0400000005000000010100)) (refuses 3 24 0)
-    -- a missing parameter mark
-    ∷ example (stageOf (bytes 34 0x010000001D000000001800000014010000000F0D0000000100000002000100030001)) (refuses 3 15 0)
-    -- a constant cut short
-    ∷ example (stageOf (bytes 24 0x0100000013000000000E0000000A01000000050209000000)) (refuses 3 15 0)
-    -- a condition that runs past its While: the holder is the While, and the place is the condition's
-    ∷ example (stageOf (bytes 25 0x0100000014000000000F000000060300000002010000000108)) (refuses 3 15 0)
-    -- 2, values that are not listed
-    -- statement kind 0
-    ∷ example (stageOf (bytes 15 0x010000000A00000000050000000100)) (refuses 2 10 0)
-    -- statement kind 11
-    ∷ example (stageOf (bytes 15 0x010000000A0000000005000000010B)) (refuses 2 10 0)
-    -- expression kind 17
-    ∷ example (stageOf (bytes 20 0x010000000F000000000A00000006010000000111)) (refuses 2 15 0)
-    -- a mark of 2
-    ∷ example (stageOf (bytes 20 0x010000000F000000000A00000006040000000002)) (refuses 2 10 0)
-    -- a bad mark before a missing one
+    -- a bad mark (2) before a missing one (3)
     ∷ example (stageOf (bytes 34 0x010000001D000000001800000014010000000F0D0000000100000002000100030002)) (refuses 2 15 0)
-    -- a bad mark before a bad run
-    ∷ example (stageOf (bytes 30 0x0100000019000000001400000010050000000100000001010000000002FF)) (refuses 2 10 0)
-    -- default byte 23
-    ∷ example (stageOf (bytes 20 0x010000000F000000000A00000006070000000117)) (refuses 2 10 0)
-    -- const byte 16
-    ∷ example (stageOf (bytes 21 0x0100000010000000000B0000000701000000020210)) (refuses 2 15 0)
-    -- a Bool of 2
-    ∷ example (stageOf (bytes 22 0x0100000011000000000C000000080100000003020F02)) (refuses 2 15 0)
-    -- field form 3
-    ∷ example (stageOf (bytes 21 0x0100000010000000000B0000000701000000020703)) (refuses 2 15 0)
-    -- local form 4
-    ∷ example (stageOf (bytes 21 0x0100000010000000000B0000000701000000020B04)) (refuses 2 15 0)
-    -- intrinsic code 34
-    ∷ example (stageOf (bytes 21 0x0100000010000000000B0000000701000000020C22)) (refuses 2 15 0)
-    -- flag byte 16
-    ∷ example (stageOf (bytes 36 0x010000001F000000001A0000001601000000110D00000001000000020003100000000000)) (refuses 2 15 0)
-    -- 4, depth
-    -- a While at depth 200 with no condition: depth comes before what is missing
-    ∷ example (stageOf (unitOf (nestBlocks 199 5 ++ nodeOf 3 []))) (refuses 4 1806 0)
-    -- 5, more arguments than parameters, after all else of the call
-    -- one too many
-    ∷ example (stageOf (bytes 47 0x010000002A000000002500000021010000001C0D000000010000000200030001000000000A00000001010000000101)) (refuses 5 15 0)
-    -- bytes left come first
+    -- bytes left come before 5
     ∷ example (stageOf (bytes 48 0x010000002B000000002600000022010000001D0D000000010000000200030001000000000A0000000101000000010100)) (refuses 3 15 0)
-    -- faults inside come first
-    ∷ example (stageOf (bytes 47 0x010000002A000000002500000021010000001C0D000000010000000200030001000000000A00000001010000000111)) (refuses 2 42 0)
     -- the whole unit is read before the walk
     ∷ example (stageOf (bytes 20 0x010000000F000000000A0000000108000000010C)) (refuses 2 15 0)
     -- room, listings and resolving
@@ -441,10 +279,14 @@ table =
 -- 4. The theorem: every question of the table has the reply that stands beside it
 
 pub examples : map (λ r. answer (r .question)) table ≡ map (λ r. r .reply) table
-unfolding table answer replyOf replyPrinted runOf nodeOf unitOf expression times nopNodes asRefNode callOf freeCallOf instanceCallOf nestBlocks listingOf bind onward checked number bytes sizes tagSize emitted rows rowOf defaultTags constTags constTag constWidths intrinsics intrinsicOf size recordBytes recordAt unused0 goodRecord exprsOf blockOf branchesOf casesOf lengthExprs lengthCases isPresent placeOf _>>=_ give unknownKind unsigned byteBelow markBytes room span items filling run head ended node pick asNop payload asConst asNull asNewInstance asConstruct asAssign asField asIndex asConditional asDynCast asLocal asIntrinsic callee arguments asFreeCall asStaticCall asInstanceCall asClosureCall exprKinds exprBody parseExpr asExpr asBlock asWhile arm blockIf asBranches asSwitch asInitArray asInitDefault asBreak asContinue returnIf asReturn stmtKinds stmtBody parseStmt frontGood parseUnit many emits unmarked labelLimit step execute require isPrvalue onePrvalue isFlagged flagsOf requireFlags weakToRef nullTag elementTag localTag lowerField lowerArg nops emitInvoke emitCall lowerExpr lowerElements lowerArray primitiveDefault defaultInstrs lowerReturn lowerReturnNothing jumpTo midDefault endsGroup inGroup lowerStmt recordsBytes listingBytes countOf listingFront recordsFrom allGood readListing view inRange word signed distanceOf resolveField resolveRecord resolveRecords resolve lowered lowerInto stage linesFrom totalSize printed letters digit digits placesIn decimal integer fields lineText linesText text
+unfolding table answer replyOf replyPrinted runOf nodeOf unitOf expression times nopNodes asRefNode callOf freeCallOf instanceCallOf listingOf bind onward checked number bytes sizes tagSize emitted rows rowOf defaultTags constTags constTag constWidths intrinsics intrinsicOf size recordBytes recordAt unused0 goodRecord exprsOf blockOf branchesOf casesOf lengthExprs lengthCases isPresent placeOf _>>=_ give unknownKind unsigned byteBelow markBytes room span items filling run head ended node pick asNop payload asConst asNull asNewInstance asConstruct asAssign asField asIndex asConditional asDynCast asLocal asIntrinsic callee arguments asFreeCall asStaticCall asInstanceCall asClosureCall exprKinds exprBody parseExpr asExpr asBlock asWhile arm blockIf asBranches asSwitch asInitArray asInitDefault asBreak asContinue returnIf asReturn stmtKinds stmtBody parseStmt frontGood parseUnit many emits unmarked labelLimit step execute require isPrvalue onePrvalue isFlagged flagsOf requireFlags weakToRef nullTag elementTag localTag lowerField lowerArg nops emitInvoke emitCall lowerExpr lowerElements lowerArray primitiveDefault defaultInstrs lowerReturn lowerReturnNothing jumpTo midDefault endsGroup inGroup lowerStmt recordsBytes listingBytes countOf listingFront recordsFrom allGood readListing view inRange word signed distanceOf resolveField resolveRecord resolveRecords resolve lowered lowerInto stage linesFrom totalSize printed letters digit digits placesIn decimal integer fields lineText linesText text
 examples = refl
 
--- 5. Numbers as text
+-- 5. An input that is too long, and numbers as text
+
+pub too-long : shown (times 2049 (0 ∷ [])) ≡ refusedWith 1 0 0
+unfolding shown times
+too-long = refl
 
 pub numerals : map decimal (0 ∷ 9 ∷ 10 ∷ 99 ∷ 100 ∷ 65535 ∷ 18446744073709551615 ∷ []) ≡ map letters ("0" ∷ "9" ∷ "10" ∷ "99" ∷ "100" ∷ "65535" ∷ "18446744073709551615" ∷ [])
 unfolding letters digit digits placesIn decimal

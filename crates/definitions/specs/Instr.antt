@@ -1,10 +1,10 @@
 -- A record of the listing: "records of 18 bytes: tag 1, small 1, first 2, second 2, line 2, flags 2, value 8".
 use Prim.Native.Nat.{ℕ, _+_}
-use mathlib.Core.Bool.{Bool, true, false, cond, _&&_, _||_}
-use mathlib.Core.List.{List, [], _∷_, _++_}
+use mathlib.Core.Bool.{Bool, cond, _&&_, _||_}
+use mathlib.Core.List.{List, [], _++_}
 use lib.Dec.{eqb}
 use Rattle.definitions.specs.Bytes.{number, bytes}
-use Rattle.definitions.specs.Tag.{Row, rowOf, tagSize, emitted}
+use Rattle.definitions.specs.Tag.{rowOf, tagSize, emitted}
 
 pub record Instr : Type 0 where
   pub tag : ℕ

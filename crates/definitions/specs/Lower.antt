@@ -1,9 +1,9 @@
 -- Lowering: what each node emits, in the order of assemble, assemble_expr, assemble_call, emit_call and emit_intrinsic.
 use Prim.Native.Nat.{ℕ, zero, suc, _+_, _-_, _*_}
 use mathlib.Core.Bool.{Bool, true, false, cond, _&&_, _||_, not}
-use mathlib.Core.List.{List, [], _∷_, _++_}
+use mathlib.Core.List.{List, [], _∷_}
 use mathlib.Core.Option.{Option, none, some}
-use lib.Dec.{leb, ltb, eqb}
+use lib.Dec.{ltb, eqb}
 use lib.ListN.{getD}
 use Rattle.definitions.specs.Answer.{Result}
 use Rattle.definitions.specs.Tag.{Nop, Null, I8Const, U64Const, Assign, Local, Param, ObjectField, Switch, SwitchLabel, SwitchDefault, Jump, JumpIfFalse, Skip, Conditional, Construct, InvokeStatic, InvokeVirtual, ParamEnd, Return, StructField, Context, New, This, ArrayClear, ArrayResize, ArrayElement, StaticArrayElement, I32ToEnum, DynamicCast, WeakRefToRef, WeakRefNull, defaultTags, constTag, intrinsicOf, codeAsRef, codeDeref}

@@ -5,7 +5,7 @@ use mathlib.Core.List.{List, [], _∷_}
 use lib.Dec.{ltb, leb, eqb}
 use lib.ListN.{length, getD}
 use lib.IntN.{ℤ, pos, negsuc, subℕ}
-use Rattle.definitions.specs.Answer.{Result, made, refusal, onward, checked}
+use Rattle.definitions.specs.Answer.{Result, made, onward, checked}
 use Rattle.definitions.specs.Tag.{rowOf}
 use Rattle.definitions.specs.Instr.{Instr, size}
 use Rattle.definitions.specs.Code.{unmarked}
@@ -56,8 +56,13 @@ resolveRecords marks start number (i ∷ is) =
     made (r ∷ rs)
 
 -- 4. A listing and a label table, the whole slice of words, with `space` bytes lent: "checks 30, then each record, then 20"
+
+-- records whose listing fits so many bytes
+abbrev pub fitting : (space : ℕ) → List Instr → Result (List Instr)
+fitting space rs = checked (leb (listingLength (length rs)) space) 20 0 0 (made rs)
+
 unfoldable pub resolve : (listing marks : List ℕ) (space : ℕ) → Result (List Instr)
 resolve s marks space =
     onward (readListing s) λ is.
     onward (resolveRecords marks 0 0 is) λ rs.
-    checked (leb (listingLength (length rs)) space) 20 0 0 (made rs)
+    fitting space rs

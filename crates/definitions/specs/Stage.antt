@@ -1,5 +1,6 @@
 -- The whole stage: read, lower, resolve; and what lent buffers hold.
 use Prim.Native.Nat.{ℕ, _+_}
+use mathlib.Core.Bool.{true, false}
 use mathlib.Core.List.{List, [], _∷_, _++_}
 use lib.Dec.{leb}
 use lib.ListN.{length, drop}
@@ -96,3 +97,10 @@ printedAs sign is = code (length is) (totalSize is) (linesFrom sign 0 is)
 unfoldable pub printed : Result (List Instr) → Printed
 printed (made is) = printedAs signed is
 printed (refusal n p x) = refusedWith n p x
+
+-- the program: "reads a unit of at most 2,048 bytes"; "a longer input prints `refused 1 0 0`"
+abbrev pub inputLimit : ℕ
+inputLimit = 2048
+
+unfoldable pub shown : (input : List ℕ) → Printed
+shown s = elim (leb (length s) inputLimit) [ true ↦ printed (stage s) | false ↦ refusedWith 1 0 0 ]

@@ -1,5 +1,5 @@
 -- The tree of a unit. Each node has its place, `at`: the unit offset that a refusal names. Numbers are as the unit has them.
-use Prim.Native.Nat.{ℕ, zero, suc}
+use Prim.Native.Nat.{ℕ, suc}
 use mathlib.Core.Bool.{Bool, true, false}
 use mathlib.Core.List.{List, [], _∷_}
 

@@ -6,11 +6,11 @@ use mathlib.Core.List.{List, [], _++_}
 use native.Mathlib.Omega.{arith}
 use native.Mathlib.Nat.{zero-add}
 use lib.Dec.{leb, eqb}
-use lib.ListN.{length, getD}
+use lib.ListN.{length, getD, drop, length-append}
 use lib.IntN.{ℤ}
 use lib.Seq.{sets, sets-eq}
 use borrow.Author.Tests.{le-leb, lt-leb, leb-true}
-use Rattle.definitions.specs.Answer.{made, refusal, onward, checked}
+use Rattle.definitions.specs.Answer.{Result, made, refusal, onward, checked}
 use Rattle.definitions.specs.Bytes.{number}
 use Rattle.definitions.specs.Instr.{Instr, recordLength}
 use Rattle.definitions.specs.Listing.{frontLength, listingFront, countOf, recordLimit, recordsFrom, recordsOf, allGood, readListing, listingBytes}
@@ -25,6 +25,7 @@ use Rattle.instr.specs.declared.listings.Checked.the-variants as listing
 use Rattle.instr.proofs.ListingLaws.{length-records}
 use Rattle.instr.proofs.WholeLaws.{written-is-read}
 use Rattle.print.specs.declared.Form.the-variants.{Distances}
+use Rattle.print.specs.declared.Text.{Text}
 use Rattle.print.specs.declared.Text.the-variants.{Done, Bad, Short}
 use Rattle.print.specs.Values.{signOf, textIs, measured, Answers}
 use Rattle.print.specs.Writing.{Wrote}
@@ -43,6 +44,19 @@ same s p = ap (λ (x : List ℕ). length (x ++ s)) (no-bytes p)
 over-start : (t s : List ℕ) → length t ≤ length s → sets s 0 t ≡ over t s
 unfolding over
 over-start t s h = rw (← zero-add (length t)) (sets-eq t s 0 (omega arith))
+
+-- so a buffer holds what was written
+pub over-holds : (w b : List ℕ) → length w ≤ length (over w b)
+unfolding over
+over-holds w b = omega (arith, length-append w (drop (length w) b))
+
+-- a text that was written stands within the buffer
+pub done-within : (t : Result (List ℕ)) {n : ℕ} {r : Text} {b a : List ℕ} → r ≡ Done n → Answers t r b a → n ≤ length a
+unfolding textIs measured overIf
+done-within (made x) {n} {b = b} d h =
+    let k : n ≡ length x = made-is (rw d at (h .number)) in
+    rw (h .bytes) (omega (arith, k, over-holds x b))
+done-within (refusal c p x) d h = refusal-not-made (sym (rw d at (h .number)))
 
 module _ (p : Printed) {r : ℕ} {v s : List ℕ} (dry : Wrote (text p) 0 [] r v) where
   pub short-text : length (v ++ s) < r → Answers (textInto p (length s)) Short s (v ++ s)

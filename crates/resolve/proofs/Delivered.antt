@@ -19,8 +19,8 @@ use Rattle.definitions.specs.Instr.{Instr, size}
 use Rattle.definitions.specs.Code.{State, unmarked}
 use Rattle.definitions.specs.Lower.{lower}
 use Rattle.definitions.specs.Listing.{listingLength, listingBytes, readListing}
-use Rattle.definitions.specs.Resolve.{distanceOf, resolveField, resolveRecord, resolveRecords, resolve}
-use Rattle.definitions.specs.Stage.{lowered, labelled, lowerInto, over, listed, lowerTo, coded, unresolved, resolveTo}
+use Rattle.definitions.specs.Resolve.{distanceOf, resolveField, resolveRecord, resolveRecords, fitting, resolve}
+use Rattle.definitions.specs.Stage.{lowered, labelled, lowerInto, over, listed, lowerTo, coded, unresolved, resolveTo, stage}
 use Rattle.laws.proofs.Inversion.{impossible, refusal-not-made}
 use Rattle.laws.proofs.Results.{made-is, onward-is}
 use Rattle.instr.proofs.WholeLaws.{length-listing, written-is-read}
@@ -30,6 +30,7 @@ use Rattle.landing.specs.Landed.{Far, filled, firstFar, unlessFar, withDistance
 use Rattle.landing.specs.Walk.{Bytes}
 use Rattle.landing.proofs.Theorem.{landing, bounded}
 use Rattle.landing.proofs.Emitted.{listing-records}
+use Rattle.resolve.proofs.Listed.{checked-is}
 use Rattle.resolve.specs.Delivered.{delivers, isCoded, Only, listingIn, Delivered}
 
 -- 1. Table words past the labels are not looked at: only the marks of labels that are carried count
@@ -55,7 +56,7 @@ over-front : (w b : List ℕ) (n : ℕ) → length w ≡ n → take n (over w b)
 unfolding over
 over-front w b n e = take-at w _ n e
 
-listing-front : (is : List Instr) (o : List ℕ) (n : ℕ) → length is ≡ n → listingIn n (over (listingBytes is) o) ≡ listingBytes is
+pub listing-front : (is : List Instr) (o : List ℕ) (n : ℕ) → length is ≡ n → listingIn n (over (listingBytes is) o) ≡ listingBytes is
 listing-front is o n e = over-front (listingBytes is) o (listingLength n) (length-listing is ∙ ap listingLength e)
 
 filled-length : (is : List Instr) (ds : List ℤ) → length (filled is ds) ≡ length is
@@ -65,17 +66,12 @@ filled-length (i ∷ is) ds = ap suc (filled-length is _)
 
 -- 3. From an answer of lowering to the unit that was read and lowered
 
-checked-is : {A : Type 0} (b : Bool) (n p x : ℕ) (r : Result A) {a : A} → checked b n p x r ≡ made a → r ≡ made a
-unfolding checked
-checked-is true n p x r e = e
-checked-is false n p x r e = refusal-not-made e
-
-labelled-is : (x : Answer Script) (t : State) → lowered x ≡ made t → (u : Script) × (next : ℕ) × (x ≡ ok u next) × (lower u ≡ made t)
+pub labelled-is : (x : Answer Script) (t : State) → lowered x ≡ made t → (u : Script) × (next : ℕ) × (x ≡ ok u next) × (lower u ≡ made t)
 unfolding lowered
 labelled-is (ok u next) t e = (u, next, refl, e)
 labelled-is (refused n p x) t e = refusal-not-made e
 
-lowered-is : (s : List ℕ) (a b : ℕ) (t : State) → lowerInto s a b ≡ made t → labelled s ≡ made t
+pub lowered-is : (s : List ℕ) (a b : ℕ) (t : State) → lowerInto s a b ≡ made t → labelled s ≡ made t
 unfolding lowerInto
 lowered-is s a b t e =
     let c = onward-is (labelled s) _ e in
@@ -97,11 +93,8 @@ listed-is (refusal a p x) o m total k n out marks e = impossible (cc)
 
 -- 4. Resolving by the table
 
-room : (p : List ℕ) → List Instr → Result (List Instr)
-room p rs = checked (leb (listingLength (length rs)) (length p)) 20 0 0 (made rs)
-
-far-delivers : (far : Far) (n : ℕ) (code : List Instr) (p : List ℕ) → length code ≡ n → resolveTo (onward (unlessFar far code) (room p)) p ≡ delivers far n code p
-unfolding unlessFar onward checked room delivers resolveTo
+far-delivers : (far : Far) (n : ℕ) (code : List Instr) (p : List ℕ) → length code ≡ n → resolveTo (onward (unlessFar far code) (fitting (length p))) p ≡ delivers far n code p
+unfolding unlessFar onward checked delivers resolveTo
 far-delivers (some f) n code p e = refl
 far-delivers none n code p e = rw (← e) (go (leb (listingLength (length code)) (length p)))
   where
@@ -145,7 +138,7 @@ module _ (s : List ℕ) (bytes : Bytes s) (u : Script) (next : ℕ) (read : pars
   marks-same w h = records-same w (t .marks) 0 0 (t .instrs) (λ j c. sym (getD-take (length (t .marks)) w j unmarked (landing s u next read t e .marked j c .0)) ∙ ap (λ v. getD v j unmarked) h)
 
   answers : (w p : List ℕ) → take (length (t .marks)) w ≡ t .marks → resolveTo (resolve (listingBytes (t .instrs)) w (length p)) p ≡ delivers (firstFar 0 (t .instrs) ds) (length (t .instrs)) code p
-  unfolding resolve onward withDistances room
+  unfolding resolve onward withDistances
   answers w p h =
       rw (reads-again, marks-same w h, landing s u next read t e .resolves) (far-delivers (firstFar 0 (t .instrs) ds) (length (t .instrs)) code p (filled-length (t .instrs) ds))
 
@@ -153,35 +146,68 @@ module _ (s : List ℕ) (bytes : Bytes s) (u : Script) (next : ℕ) (read : pars
   unfolding withDistances
   coded-near = let l = landing s u next read t e in ap isMade (sym (l .resolves)) ∙ l .near
 
--- of every list of bytes, and whatever the lent buffers o and m hold: if lowering lists, this is what it lists and what resolving makes of it
-pub delivered : (s o m : List ℕ) → Bytes s → (total k n : ℕ) (out marks : List ℕ) → lowerTo (lowerInto s (length o) (length m)) o m ≡ listed total k n out marks → Delivered s k n out marks
-delivered s o m bytes total k n out marks e =
+  -- resolving what is listed is the stage, up to the room that is lent
+  stages : (w : List ℕ) (space : ℕ) → take (length (t .marks)) w ≡ t .marks → resolve (listingBytes (t .instrs)) w space ≡ onward (stage s) (fitting space)
+  unfolding resolve stage lowered onward
+  stages w space h = rw (reads-again, marks-same w h, read, lowered, e, onward)
+
+-- what lowering lists: a script, its listing and its marks
+record Known (s : List ℕ) (k n : ℕ) (out marks : List ℕ) : Type 0 where
+  script : Script
+  next : ℕ
+  reads : parseUnit s ≡ ok script next
+  state : State
+  lowers : lower script ≡ made state
+  count : length (state .instrs) ≡ n
+  listing : listingIn n out ≡ listingBytes (state .instrs)
+  table : (w : List ℕ) → take k w ≡ take k marks → take (length (state .marks)) w ≡ state .marks
+
+known : (s o m : List ℕ) (total k n : ℕ) (out marks : List ℕ) → lowerTo (lowerInto s (length o) (length m)) o m ≡ listed total k n out marks → Known s k n out marks
+known s o m total k n out marks e =
     let d = listed-is (lowerInto s (length o) (length m)) o m total k n out marks e in
     let t = d .state in
     let x = labelled-is (parseUnit s) t (lowered-is s (length o) (length m) t (d .is)) in
-    let u = x .0 in
-    let next = x .1 in
-    let read = x .2 in
-    let low = x .3 in
-    let l = landing s u next read t low in
+    record {
+      script = x .0;
+      next = x .1;
+      reads = x .2;
+      state = t;
+      lowers = x .3;
+      count = d .records;
+      listing = ap (λ y. take (listingLength n) y) (d .out-is) ∙ listing-front (t .instrs) o n (d .records);
+      table = λ w h. rw (d .labels) (h ∙ ap (λ y. take k y) (d .marks-is) ∙ over-front (t .marks) m k (d .labels));
+    }
+
+-- of every list of bytes, and whatever the lent buffers o and m hold: if lowering lists, this is what it lists and what resolving makes of it
+pub delivered : (s o m : List ℕ) → Bytes s → (total k n : ℕ) (out marks : List ℕ) → lowerTo (lowerInto s (length o) (length m)) o m ≡ listed total k n out marks → Delivered s k n out marks
+delivered s o m bytes total k n out marks e =
+    let d = known s o m total k n out marks e in
+    let u = d .script in
+    let t = d .state in
+    let l = landing s u (d .next) (d .reads) t (d .lowers) in
     let far = firstFar 0 (t .instrs) (distancesOf u) in
     let code = filled (t .instrs) (distancesOf u) in
-    let listing : listingIn n out ≡ listingBytes (t .instrs) = ap (λ y. take (listingLength n) y) (d .out-is) ∙ listing-front (t .instrs) o n (d .records) in
-    let table : (w : List ℕ) → take k w ≡ take k marks → take (length (t .marks)) w ≡ t .marks = λ w h. rw (d .labels) (h ∙ ap (λ y. take k y) (d .marks-is) ∙ over-front (t .marks) m k (d .labels)) in
     let resolves : (w p : List ℕ) → take k w ≡ take k marks → resolveTo (resolve (listingIn n out) w (length p)) p ≡ delivers far n code p =
-    λ w p h. ap (λ y. resolveTo (resolve y w (length p)) p) listing ∙ answers s bytes u next read t low w p (table w h) ∙ ap (λ y. delivers far y code p) (d .records) in
+    λ w p h. ap (λ y. resolveTo (resolve y w (length p)) p) (d .listing) ∙ answers s bytes u (d .next) (d .reads) t (d .lowers) w p (d .table w h) ∙ ap (λ y. delivers far y code p) (d .count) in
     record {
       script = u;
-      reads = rw (← (unit-at s u next read .ends)) read;
+      reads = rw (← (unit-at s u (d .next) (d .reads) .ends)) (d .reads);
       instrs = t .instrs;
-      holds = ap readListing listing ∙ reads-again s bytes u next read t low;
+      holds = ap readListing (d .listing) ∙ reads-again s bytes u (d .next) (d .reads) t (d .lowers);
       resolves = resolves;
       refusedFor = l .refusedFor;
-      near = λ w p h. ap isCoded (resolves w p h) ∙ far-coded far n code p ∙ ap (λ y. y && leb (listingLength n) (length p)) (coded-near s bytes u next read t low);
+      near = λ w p h. ap isCoded (resolves w p h) ∙ far-coded far n code p ∙ ap (λ y. y && leb (listingLength n) (length p)) (coded-near s bytes u (d .next) (d .reads) t (d .lowers));
       numbers = λ w p h. rw (resolves w p h) (far-numbers far n code p);
       all = l .all;
       lands = l .lands;
     }
+
+-- so resolving what lowering left is the definition's stage, and 20 where the room is short
+pub delivers-stage : (s o m : List ℕ) → Bytes s → (total k n : ℕ) (out marks : List ℕ) → lowerTo (lowerInto s (length o) (length m)) o m ≡ listed total k n out marks →
+    (w : List ℕ) (space : ℕ) → take k w ≡ take k marks → resolve (listingIn n out) w space ≡ onward (stage s) (fitting space)
+delivers-stage s o m bytes total k n out marks e w space h =
+    let d = known s o m total k n out marks e in
+    ap (λ y. resolve y w space) (d .listing) ∙ stages s bytes (d .script) (d .next) (d .reads) (d .state) (d .lowers) w space (d .table w h)
 
 -- 6. Of a unit whose script and labelled listing are known
 

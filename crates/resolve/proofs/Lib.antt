@@ -1,7 +1,7 @@
 -- Laws that belong to no one function, and the theorem.
 mod LabelLaws
-mod PassLaws
 pub mod Listed
+mod PassLaws
 pub mod Delivered
 pub mod Applied
 pub mod Nops

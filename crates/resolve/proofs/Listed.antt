@@ -1,22 +1,31 @@
 -- A RESOLVED LISTING IS A LISTING: of good records that fit their bytes, resolving makes good records that fit them. Assumes nothing.
-use Prim.Native.Nat.{ℕ, suc, _+_, _<_, _^_}
-use mathlib.Core.Path.{_≡_, refl}
+use Prim.Native.Nat.{ℕ, zero, suc, _+_, _<_, _≤_, _^_}
+use mathlib.Core.Path.{_≡_, refl, ap, sym, _∙_}
 use mathlib.Core.Bool.{Bool, true, false, not, and-eq-true-iff}
 use mathlib.Core.List.{List, [], _∷_}
 use native.Mathlib.Omega.{arith}
 use lib.Dec.{eqb}
-use lib.ListN.{getD}
+use lib.ListN.{length, getD}
 use lib.IntN.{ℤ, pos, negsuc, subℕ}
 use borrow.Author.Tests.{ltb-true}
-use Rattle.definitions.specs.Answer.{made, checked}
+use Rattle.definitions.specs.Answer.{Result, made, checked}
 use Rattle.definitions.specs.Tag.{rowOf}
-use Rattle.definitions.specs.Instr.{Instr, size, unused0, goodRecord}
+use Rattle.definitions.specs.Instr.{Instr, size, recordLength, recordAt, unused0, goodRecord}
 use Rattle.definitions.specs.Code.{unmarked}
-use Rattle.definitions.specs.Listing.{allGood}
-use Rattle.definitions.specs.Resolve.{inRange, word, distanceOf, resolveField, resolveRecord, resolveRecords}
+use Rattle.definitions.specs.Listing.{frontLength, countOf, recordLimit, recordsFrom, recordsOf, allGood, readListing}
+use Rattle.definitions.specs.Resolve.{inRange, word, distanceOf, resolveField, resolveRecord, resolveRecords, fitting, resolve}
 use Rattle.laws.proofs.Inversion.{refusal-not-made}
 use Rattle.laws.proofs.Results.{made-is, onward-is}
-use Rattle.laws.proofs.Widths.{Within, AllWithin}
+use Rattle.laws.proofs.Widths.{Within, AllWithin, number-fits}
+use Rattle.instr.specs.Values.{checkedIs, counted}
+use Rattle.instr.proofs.WholeLaws.{accepted}
+use Rattle.landing.specs.Walk.{Bytes}
+
+-- a check that was passed
+pub checked-is : {A : Type 0} (b : Bool) (n p x : ℕ) (r : Result A) {a : A} → checked b n p x r ≡ made a → r ≡ made a
+unfolding checked
+checked-is true n p x r e = e
+checked-is false n p x r e = refusal-not-made e
 
 -- sixteen bits
 word-fits : (d : ℤ) → inRange d ≡ true → word d < 256 ^ 2
@@ -64,3 +73,48 @@ records-listed marks o k (i ∷ is) rs e w g =
     let r = record-fits marks o k i (a .0) (a .1) (w .0) in
     let rest = records-listed marks (o + size i) (suc k) is (b .0) (b .1) (w .1) (h .1) in
     rw (← (made-is (b .2))) ((r .0, rest .0), rw (r .1, h .0, rest .1))
+
+-- as many as there were
+pub resolved-length : (marks : List ℕ) (o k : ℕ) (is rs : List Instr) → resolveRecords marks o k is ≡ made rs → length rs ≡ length is
+unfolding resolveRecords
+resolved-length marks o k [] rs e = let z : rs ≡ [] = cc in rw z
+resolved-length marks o k (i ∷ is) rs e =
+    let a = onward-is (resolveRecord marks o k i) _ e in
+    let b = onward-is (resolveRecords marks (o + size i) (suc k) is) _ (a .2) in
+    let z : rs ≡ a .0 ∷ b .0 = cc (b .2) in
+    rw z (ap suc (resolved-length marks (o + size i) (suc k) is (b .0) (b .1)))
+
+-- the records in a list of bytes fit theirs
+record-within : (s : List ℕ) → Bytes s → (at : ℕ) → Within (recordAt s at)
+unfolding recordAt
+record-within s b at = record {
+  tag = number-fits 1 s at b;
+  small = number-fits 1 s (at + 1) b;
+  first = number-fits 2 s (at + 2) b;
+  second = number-fits 2 s (at + 4) b;
+  line = number-fits 2 s (at + 6) b;
+  flags = number-fits 2 s (at + 8) b;
+  value = number-fits 8 s (at + 10) b;
+}
+
+records-within : (s : List ℕ) → Bytes s → (n at : ℕ) → AllWithin (recordsFrom n s at)
+unfolding recordsFrom
+records-within s b zero at = tt
+records-within s b (suc n) at = (record-within s b at, records-within s b n (at + recordLength))
+
+-- whatever listing is resolved: what comes is one
+pub record Resolved (rs : List Instr) : Type 0 where
+  pub within : AllWithin rs
+  pub good : allGood rs ≡ true
+  pub few : length rs ≤ recordLimit
+
+pub resolved-listing : (s marks : List ℕ) (space : ℕ) (rs : List Instr) → Bytes s → resolve s marks space ≡ made rs → Resolved rs
+unfolding resolve counted checkedIs
+resolved-listing s marks space rs b e =
+    let a = onward-is (readListing s) _ e in
+    let c = onward-is (resolveRecords marks 0 0 (a .0)) (fitting space) (a .2) in
+    let k = accepted s (length (a .0)) (sym (ap counted (a .1))) in
+    let is : a .0 ≡ recordsOf s = made-is (sym (a .1) ∙ k .reads) in
+    let same : c .0 ≡ rs = made-is (checked-is _ 20 0 0 (made (c .0)) (c .2)) in
+    let r = records-listed marks 0 0 (a .0) (c .0) (c .1) (rw is (records-within s b (countOf s) frontLength)) (rw is (k .good)) in
+    rw (← same) (record { within = r .0; good = r .1; few = omega (arith, resolved-length marks 0 0 (a .0) (c .0) (c .1), k .few) })

@@ -16,13 +16,14 @@ use Rattle.definitions.specs.Listing.{frontLength, listingLength, recordsFrom, 
 use Rattle.definitions.specs.Resolve.{resolveRecord, resolveRecords, resolve}
 use Rattle.definitions.specs.Stage.{over, coded, resolveTo}
 use Rattle.laws.proofs.Inversion.{refusal-not-made}
-use Rattle.laws.proofs.Results.{onward-made, onward-assoc, onward-same, onward-is}
+use Rattle.laws.proofs.Results.{onward-made, onward-assoc, onward-same}
 use Rattle.instr.specs.declared.records.Record.{Record}
 use Rattle.instr.specs.declared.listings.Checked.{Checked}
 use Rattle.instr.specs.declared.listings.Checked.the-variants.{Good, Bad}
 use Rattle.instr.specs.Values.{instrOf, checkedIs, counted, written, front, frontFits, frontWritten}
 use Rattle.instr.proofs.NumberLaws.{length-bytes}
 use Rattle.instr.proofs.ListingLaws.{length-records}
+use Rattle.resolve.proofs.Listed.{resolved-length}
 use Rattle.instr.proofs.WholeLaws.{records-snoc, Accepted, accepted, length-record, length-records-bytes, length-listing}
 use Rattle.ir.specs.declared.Refusal.{Refusal}
 use Rattle.resolve.specs.declared.Resolved.{Resolved}
@@ -180,15 +181,6 @@ module _ {s marks : List ℕ} {count n start : ℕ} {o out : List ℕ} (c : Codi
       rw (e .0, over-listing (c .done) out₀, e .1) (ap (coded count) w)
 
 -- 4. What `resolve` answers
-
-resolved-length : (marks : List ℕ) (o k : ℕ) (is rs : List Instr) → resolveRecords marks o k is ≡ made rs → length rs ≡ length is
-unfolding resolveRecords
-resolved-length marks o k [] rs e = let z : rs ≡ [] = cc in rw z
-resolved-length marks o k (i ∷ is) rs e =
-    let a = onward-is (resolveRecord marks o k i) _ e in
-    let b = onward-is (resolveRecords marks (o + size i) (suc k) is) _ (a .2) in
-    let z : rs ≡ a .0 ∷ b .0 = cc (b .2) in
-    rw z (ap suc (resolved-length marks (o + size i) (suc k) is (b .0) (b .1)))
 
 counted-is : (r : Result (List Instr)) (m : ℕ) → made m ≡ counted r → (rs : List Instr) × (r ≡ made rs) × (length rs ≡ m)
 unfolding counted
