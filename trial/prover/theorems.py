@@ -28,9 +28,9 @@ pub data Labelled : Type 0 where
   labels : (count total : ℕ) → List Line → (marks : List ℕ) → Labelled
   refuses : (number place extra : ℕ) → Labelled
 
-unfoldable pub shown : Result State → Labelled
-shown (made l) = labels (length (l .instrs)) (l .offset) (linesFrom pos 0 (l .instrs)) (l .marks)
-shown (refusal n p x) = refuses n p x
+unfoldable pub asLabelled : Result State → Labelled
+asLabelled (made l) = labels (length (l .instrs)) (l .offset) (linesFrom pos 0 (l .instrs)) (l .marks)
+asLabelled (refusal n p x) = refuses n p x
 
 -- a printed line
 abbrev pub i : (start tag small : ℕ) → (first second : ℤ) → (line flags value : ℕ) → Line
@@ -42,11 +42,11 @@ use Prim.Native.Nat.{ℕ}
 use mathlib.Core.Path.{_≡_, refl}
 use mathlib.Core.List.{List, [], _∷_}
 use lib.IntN.{ℤ, pos, negsuc}
-use Rattle.trial.specs.Asked.{labels, refuses, shown, i}
+use Rattle.trial.specs.Asked.{labels, refuses, asLabelled, i}
 """
 
 # The question of each kind of answer, and the constructors of its reply: code and refused.
-QUESTIONS = {STAGE: "printed (stage {})", LABELLED: "shown (labelled {})"}
+QUESTIONS = {STAGE: "printed (stage {})", LABELLED: "asLabelled (labelled {})"}
 CODE = {STAGE: "code", LABELLED: "labels"}
 REFUSED = {STAGE: "refusedWith", LABELLED: "refuses"}
 CITED = {"Stage": ["code", "refusedWith", "labelled"]}
@@ -118,7 +118,7 @@ def heading(names):
 
 def theorems_text(part, names):
     """A module with a theorem for each entry: its name, and the unit and the kind of answer that it is about."""
-    unfolding = " ".join(["shown", *(name for found in names.values() for name in found)])
+    unfolding = " ".join(["asLabelled", *(name for found in names.values() for name in found)])
     return "\n".join([heading(names), *(theorem(name, *asked, unfolding) for name, asked in part)])
 
 
