@@ -8,7 +8,7 @@ fn byte(v: usize) -> u8 {
 }
 
 // The byte at position n of `out`, where it fits; and the next position.
-fn push(out: &mut [u8], n: usize, b: u8) -> usize {
+pub fn push(out: &mut [u8], n: usize, b: u8) -> usize {
     if n < out.len() {
         out[n] = b;
         return n + 1;
@@ -99,17 +99,24 @@ pub fn casts(out: &mut [u8], count: u16) -> usize {
     bare(out, at, 1, expr::NOP)
 }
 
-// An expression statement: a call of a function with so many parameters, with so many Nops as arguments.
-pub fn call(out: &mut [u8], params: u8, args: u16) -> usize {
+// An expression statement: a call of a function with so many parameters, up to its arguments, which take so many bytes.
+fn call_front(out: &mut [u8], params: u8, length: usize) -> usize
+    requires { ⌜ length ≤ 2 ^ 32 ⌝ }
+{
     let marked = params as usize;
-    let given = args as usize;
-    let start = front(out, marked + 5 * given + 26);
-    let statement = head(out, start, marked + 5 * given + 22, stmt::EXPR);
-    let node = head(out, statement, marked + 5 * given + 17, expr::FREE_CALL);
+    let start = front(out, marked + length + 26);
+    let statement = head(out, start, marked + length + 22, stmt::EXPR);
+    let node = head(out, statement, marked + length + 17, expr::FREE_CALL);
     let fields = zeros(out, node, 11);
     let count = push(out, fields, params);
     let marks = zeros(out, count, marked);
-    let run = push_u32(out, marks, 5 * given);
+    push_u32(out, marks, length)
+}
+
+// Such a call with so many Nops as arguments.
+pub fn call(out: &mut [u8], params: u8, args: u16) -> usize {
+    let given = args as usize;
+    let run = call_front(out, params, 5 * given);
     bare(out, run, given, expr::NOP)
 }
 
@@ -125,4 +132,65 @@ pub fn branches(out: &mut [u8], count: u32) -> usize {
         left -= 1;
     }
     push(out, at, 0)
+}
+
+// So many Whiles, one in another, each with a Nop for its condition, and a Break in the last.
+pub fn whiles(out: &mut [u8], count: u16) -> usize {
+    let mut left = count as usize;
+    let mut at = front(out, 14 * left + 5);
+    while left > 0 {
+        let node = head(out, at, 14 * left + 1, stmt::WHILE);
+        let condition = bare(out, node, 1, expr::NOP);
+        at = push_u32(out, condition, 14 * left - 9);
+        left -= 1;
+    }
+    bare(out, at, 1, stmt::BREAK)
+}
+
+// A While on `false` with so many Nop statements.
+pub fn while_nops(out: &mut [u8], count: u32) -> usize {
+    let mut left = count as usize;
+    let start = front(out, 10 * left + 16);
+    let node = head(out, start, 10 * left + 12, stmt::WHILE);
+    let constant = head(out, node, 3, expr::CONST);
+    let bool = push(out, constant, 15);
+    let condition = push(out, bool, 0);
+    let mut at = push_u32(out, condition, 10 * left);
+    while left > 0 {
+        at = head(out, at, 6, stmt::EXPR);
+        at = head(out, at, 1, expr::NOP);
+        left -= 1;
+    }
+    at
+}
+
+// An expression statement: a Construct with so many Nops as arguments.
+pub fn construct(out: &mut [u8], count: u16) -> usize {
+    let given = count as usize;
+    let start = front(out, 5 * given + 18);
+    let statement = head(out, start, 5 * given + 14, stmt::EXPR);
+    let node = head(out, statement, 5 * given + 9, expr::CONSTRUCT);
+    let class = push_u32(out, node, 0);
+    let run = push_u32(out, class, 5 * given);
+    bare(out, run, given, expr::NOP)
+}
+
+// A call of AsRef on a null, which is a value: 22 bytes.
+fn as_ref(out: &mut [u8], n: usize) -> usize {
+    let node = head(out, n, 18, expr::INTRINSIC_CALL);
+    let code = push(out, node, expr::CODE_AS_REF);
+    let mark = push(out, code, 0);
+    let types = push(out, mark, 1);
+    let index = push_u32(out, types, 0);
+    let run = push_u32(out, index, 6);
+    let null = head(out, run, 2, expr::NULL);
+    push(out, null, 0)
+}
+
+// A call whose arguments are so many Nops and then one that is flagged, with as many parameters.
+pub fn flagged(out: &mut [u8], index: u8) -> usize {
+    let before = index as usize;
+    let run = call_front(out, byte(before + 1), 5 * before + 22);
+    let nops = bare(out, run, before, expr::NOP);
+    as_ref(out, nops)
 }

@@ -1,6 +1,7 @@
 // Units as text: a name and hexadecimal digits to a line.
 ghost use Prim.Native.Nat.{_≤_};
 ghost use lib.ListN.{length};
+use super::made::push;
 
 // The value of a hexadecimal digit; 16 for any other byte.
 fn digit(b: u8) -> u8
@@ -56,4 +57,46 @@ pub fn decode(digits: &[u8], unit: &mut [u8]) -> usize
         n += 1;
     }
     count
+}
+
+// The first n bytes; none where there are fewer.
+pub fn first(text: &[u8], n: usize) -> &[u8] {
+    if n <= text.len() {
+        return &text[..n];
+    }
+    &text[0..0]
+}
+
+// What follows the first n bytes; nothing where there are fewer.
+pub fn rest(text: &[u8], n: usize) -> &[u8] {
+    if n <= text.len() {
+        return &text[n..];
+    }
+    &text[0..0]
+}
+
+// Whether the text begins with these words.
+pub fn begins(text: &[u8], words: &[u8]) -> bool {
+    if text.len() < words.len() {
+        return false;
+    }
+    let mut i = 0;
+    while i < words.len() {
+        if text[i] != words[i] {
+            return false;
+        }
+        i += 1;
+    }
+    true
+}
+
+// The words from position n of `out` on, as many bytes as fit; and the next position.
+pub fn put(words: &[u8], n: usize, out: &mut [u8]) -> usize {
+    let mut at = n;
+    let mut i = 0;
+    while i < words.len() {
+        at = push(out, at, words[i]);
+        i += 1;
+    }
+    at
 }
