@@ -17,7 +17,7 @@ use Rattle.definitions.specs.Code.{Code, State}
 use Rattle.definitions.specs.Lower.{outside}
 use Rattle.definitions.specs.Lower as Lower
 use Rattle.definitions.specs.Listing.{frontLength, listingLength, recordsBytes, listingBytes, recordLimit}
-use Rattle.definitions.specs.Stage.{labelled, lowered, lowerInto, over, lowerTo}
+use Rattle.definitions.specs.Stage.{labelled, lowered, lowerInto, Measured, measure, over, lowerTo}
 use Rattle.instr.specs.Values.{front, frontFits, frontWritten}
 use Rattle.instr.proofs.WholeLaws.{length-listing}
 use Rattle.ir.specs.Verdict.{scripted}
@@ -28,7 +28,7 @@ use Rattle.ir.specs.declared.Class.the-variants.{Statement}
 use Rattle.ir.proofs.UnitPlaces.{unit-at}
 use Rattle.steps.specs.Running.{Cells, run}
 use Rattle.steps.specs.Walked.{Accepted, codeOf, fillCode, ran, targetOf, spanOf, Did}
-use Rattle.assemble.specs.Whole.{unitCode, zeros, answer}
+use Rattle.assemble.specs.Whole.{unitCode, zeros, answer, measuring}
 use Rattle.assemble.specs.declared
 use Rattle.steps.specs.declared.Counters.{Counters}
 use Rattle.steps.specs.declared.Target.the-variants.{Nowhere}
@@ -148,10 +148,8 @@ done-answer : (d : Counters) (t : State) (x : Result State) (o m o₃ m₂ : Lis
 unfolding answer lowerTo
 done-answer d t x o m o₃ m₂ e a b c f g = rw (e, a, b, c, f, g)
 
-module _ (s o m o₁ m₁ : List ℕ) (r : Walk) (acc : Accepted (parseUnit s)) (dry : (ran r [] [] ≡ run (unitCode s) (zeros [] [])) × (o₁ ≡ o) × (m₁ ≡ m)) where
-  abbrev theAnswer : Result State
-  theAnswer = lowerInto s (length o) (length m)
-
+-- a walk of the unit, on whatever buffers
+module _ (s : List ℕ) (acc : Accepted (parseUnit s)) where
   same-code : unitCode s ≡ Lower.codeOf (acc .0)
   same-code = code-is (λ u. Lower.codeOf u) (parseUnit s) (acc .0) (acc .1) (acc .2)
 
@@ -167,12 +165,16 @@ module _ (s o m o₁ m₁ : List ℕ) (r : Walk) (acc : Accepted (parseUnit s)) 
   unfolding ran
   runs-to z k o₂ m₂ o₃ m₃ e w = ap (λ c. run c (zeros o₃ m₃)) (sym same-code) ∙ sym w ∙ ap (λ y. ran y o₂ m₂) e
 
+module _ (s o m o₁ m₁ : List ℕ) (r : Walk) (acc : Accepted (parseUnit s)) (dry : (ran r [] [] ≡ run (unitCode s) (zeros [] [])) × (o₁ ≡ o) × (m₁ ≡ m)) where
+  abbrev theAnswer : Result State
+  theAnswer = lowerInto s (length o) (length m)
+
   pub answer-stopped : (n : Refusal) → r ≡ Stopped n → answer (Refused n) o₁ m₁ ≡ lowerTo theAnswer o m
-  answer-stopped n e = rw (dry .1, dry .2) (stopped-answer n theAnswer o m (refused-is s (length o) (length m) _ _ _ (halted-is r n [] [] [] [] e (dry .0))))
+  answer-stopped n e = rw (dry .1, dry .2) (stopped-answer n theAnswer o m (refused-is s (length o) (length m) _ _ _ (halted-is s acc r n [] [] [] [] e (dry .0))))
 
   module _ (k : Counters) (e : r ≡ Going k) where
-    totals : Totals s (acc .0) (acc .1) (acc .2) (cellsOf k [] [])
-    totals = unit-totals s (acc .0) (acc .1) (acc .2) [] [] (cellsOf k [] []) (runs-to r k [] [] [] [] e (dry .0))
+    totals : Totals s (acc .0) (acc .1) (acc .2) (cellsOf s acc k [] [])
+    totals = unit-totals s (acc .0) (acc .1) (acc .2) [] [] (cellsOf s acc k [] []) (runs-to s acc r k [] [] [] [] e (dry .0))
 
     pub answer-20 : length o₁ < listingLength (k .count) → answer (Refused (record { number = 20; place = 0; extra = 0 })) o₁ m₁ ≡ lowerTo theAnswer o m
     unfolding checked
@@ -190,21 +192,49 @@ module _ (s o m o₁ m₁ : List ℕ) (r : Walk) (acc : Accepted (parseUnit s)) 
         rw (dry .1, dry .2) (stopped-answer _ theAnswer o m (room-is s (length o) (length m) (t .state) (t .whole) ∙ rw (le-leb (listingLength (length (t .state .instrs))) (length o) g, lt-leb (length (t .state .marks)) (length m) f)))
 
     pub answer-never : {X : Type 0} (z : Walk) (n : Refusal) (o₂ m₂ : List ℕ) → z ≡ Stopped n → ran z o₂ m₂ ≡ run (unitCode s) (zeros o₁ m₁) → X
-    answer-never z n o₂ m₂ q w = refusal-not-made (sym (sym (totals .whole) ∙ halted-is z n o₂ m₂ o₁ m₁ q w))
+    answer-never z n o₂ m₂ q w = refusal-not-made (sym (sym (totals .whole) ∙ halted-is s acc z n o₂ m₂ o₁ m₁ q w))
 
     pub answer-done : (z : Walk) (d : Counters) (o₂ m₂ o₃ : List ℕ) → z ≡ Going d → listingLength (k .count) ≤ length o₁ → k .labels ≤ length m₁ →
         ran z o₂ m₂ ≡ run (unitCode s) (zeros o₁ m₁) → o₃ ≡ frontWritten (d .count) o₂ → answer (Done d) o₃ m₂ ≡ lowerTo theAnswer o m
     unfolding checked
     answer-done z d o₂ m₂ o₃ q h l w f =
-        let x = runs-to z d o₂ m₂ o m q (rw (dry .1, dry .2) at w) in
+        let x = runs-to s acc z d o₂ m₂ o m q (rw (dry .1, dry .2) at w) in
         let j = totals in
-        let t = unit-totals s (acc .0) (acc .1) (acc .2) o m (cellsOf d o₂ m₂) x in
+        let t = unit-totals s (acc .0) (acc .1) (acc .2) o m (cellsOf s acc d o₂ m₂) x in
         let u : j .state ≡ t .state = made-is (sym (j .walks-to) ∙ t .walks-to) in
         let c : k .count ≡ length (t .state .instrs) = j .count ∙ ap (λ (y : State). length (y .instrs)) u in
         let b : k .labels ≡ length (t .state .marks) = j .labels ∙ ap (λ (y : State). length (y .marks)) u in
         let g : listingLength (length (t .state .instrs)) ≤ length o = omega (arith, h, ap length (dry .1), c) in
         let v : length (t .state .marks) ≤ length m = omega (arith, l, ap length (dry .2), b) in
-        let y = unit-wrote s (acc .0) (acc .1) (acc .2) o m (cellsOf d o₂ m₂) x t g v in
+        let y = unit-wrote s (acc .0) (acc .1) (acc .2) o m (cellsOf s acc d o₂ m₂) x t g v in
         let n : o₃ ≡ over (listingBytes (t .state .instrs)) o = f ∙ front-over (d .count) (t .state .instrs) o o₂ (t .count) (t .few) g (y .out) in
         let p : theAnswer ≡ made (t .state) = room-is s (length o) (length m) (t .state) (t .whole) ∙ rw (le-leb (listingLength (length (t .state .instrs))) (length o) g, le-leb (length (t .state .marks)) (length m) v) in
         done-answer d (t .state) theAnswer o m o₃ m₂ p (t .offset) (t .labels) (t .count) n (y .marks ∙ sym (over-is (t .state .marks) m _ refl))
+
+-- 6. What `measure` answers
+
+measured-as : {a b c x y z : ℕ} → a ≡ x → b ≡ y → c ≡ z → _≡_ {A = Result Measured} (made (record { offset = a; labels = b; count = c })) (made (record { offset = x; labels = y; count = z }))
+measured-as e f g = rw (e, f, g)
+
+measured-is : (s : List ℕ) (t : State) → labelled s ≡ made t → measure s ≡ made (record { offset = t .offset; labels = length (t .marks); count = length (t .instrs) })
+unfolding measure onward
+measured-is s t e = rw (e, onward)
+
+module _ (s : List ℕ) (acc : Accepted (parseUnit s)) (z : Walk) (o₂ m₂ o₃ m₃ : List ℕ) (w : ran z o₂ m₂ ≡ run (unitCode s) (zeros o₃ m₃)) where
+  pub measure-stopped : (n : Refusal) → z ≡ Stopped n → measuring (Refused n) ≡ measure s
+  unfolding measuring measure onward
+  measure-stopped n e = rw (halted-is s acc z n o₂ m₂ o₃ m₃ e w, onward)
+
+  pub measure-done : (k : Counters) → z ≡ Going k → measuring (Done k) ≡ measure s
+  unfolding measuring
+  measure-done k e =
+      let t = unit-totals s (acc .0) (acc .1) (acc .2) o₃ m₃ (cellsOf s acc k o₂ m₂) (runs-to s acc z k o₂ m₂ o₃ m₃ e w) in
+      measured-as (t .offset) (t .labels) (t .count) ∙ sym (measured-is s (t .state) (t .whole))
+
+pub measure-refused : (s : List ℕ) (r : ReadUnit) (q : Refusal) → r ≡ Fails q → r ≡ scripted (parseUnit s) → measuring (Refused q) ≡ measure s
+unfolding measuring measure lowered onward scripted
+measure-refused s r q d e = go (parseUnit s) (sym d ∙ e)
+  where
+    go : (x : Answer Script) → Fails q ≡ scripted x → measuring (Refused q) ≡ onward (lowered x) (λ l. made (record { offset = l .offset; labels = length (l .marks); count = length (l .instrs) }))
+    go (ok u n) f = cc
+    go (refused n p x) f = cc

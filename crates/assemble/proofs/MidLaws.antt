@@ -23,6 +23,7 @@ use Rattle.steps.specs.Running.{run, move}
 use Rattle.steps.specs.Walked.{Accepted, DefaultHere, Cased, armsFrom, casesFrom, listOf, codeOf, ran, labelsOf, defaultFrom, defaultOf, defaultAnswer, midCode, insideCode, fillCode, markIf, sameAs, Did, Emitted, Labelled}
 use Rattle.steps.specs.declared.Walk.{Walk}
 use Rattle.laws.proofs.Results.{onward-assoc, onward-same}
+use Rattle.laws.proofs.Trees.{length-cases}
 use Rattle.steps.proofs.StepLaws.{fresh-same, labelled, emitted, recode, both, nothing, SameRun}
 use Rattle.steps.proofs.RunLaws.{Goes, goes-on, one-step, renamed, goes-last, goes-end, Rest, rest-next, rest-end, Turn, turn, listed}
 use Rattle.assemble.proofs.StmtCode.{ArmHere, arm-here, no-default-code, some-default, default-some, block-code}
@@ -227,11 +228,6 @@ fresh-many at n k l {w = w} {o = o} {m = m} e d = record {
 
 -- 4. The whole
 
-long-cases : (xs : List (Expr × Block)) → lengthCases (casesOf xs) ≡ length xs
-unfolding casesOf lengthCases
-long-cases [] = refl
-long-cases (x ∷ xs) = ap suc (long-cases xs)
-
 pub code-is : {A : Type 0} (f : A → Code) (x : Answer A) (a : A) (n : ℕ) → x ≡ ok a n → codeOf f x ≡ f a
 unfolding codeOf
 code-is f x a n e = ap {B = Code} (codeOf f) e
@@ -260,7 +256,7 @@ insideFor there index d s end at stop site first sc =
 
 module _ (d : ℕ) (s : List ℕ) (end at stop site first index n : ℕ) (sc : BlockSpan) (acc : Accepted (armsFrom d s end at)) (count : n ≡ length (listOf (armsFrom d s end at))) where
   cases-long : n ≡ lengthCases (casesOf (acc .0))
-  cases-long = count ∙ ap length (listed _ _ _ (acc .2)) ∙ sym (long-cases (acc .0))
+  cases-long = count ∙ ap length (listed _ _ _ (acc .2)) ∙ sym (length-cases (acc .0))
 
   pub mid-did : (body : ℕ) {w w₁ w₂ w₃ w₄ r : Walk} {o m m₁ o₂ m₂ o₃ o₄ o₅ m₅ : List ℕ} → body ≡ labelsOf w → Labelled (many site (n + 1) done) w m w₁ m₁ →
       Did (codeOf (λ cs. lowerMatchers (casesOf cs) site first body) (armsFrom d s end at)) w₁ o m₁ w₂ o₂ m₂ →

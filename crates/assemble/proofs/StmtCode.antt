@@ -22,7 +22,7 @@ use Rattle.ir.proofs.StmtPlaces.{eval-at, block-at, while-at, break-at, continu
 use Rattle.steps.specs.Walked.{Accepted, Did, Ended, DefaultHere, Cased, insideCode, midCode, defaultAnswer, exprsFrom, listOf, defaultFrom, armsFrom, casesFrom, codeOf, exprCode, stmtCode, fillCode, armCode}
 use Rattle.laws.proofs.Arms.{Nones}
 use Rattle.assemble.proofs.ExprCode.{Here, here, child, run-at}
-use Rattle.steps.proofs.HeadLaws.{long-exprs}
+use Rattle.laws.proofs.Trees.{length-exprs}
 use Rattle.steps.proofs.StepLaws.{recode}
 use Rattle.steps.specs.declared.Walk.{Walk}
 
@@ -38,7 +38,7 @@ arrayCode (suc n) local type elements = emits (plain ArrayResize 0 type ∷ plai
 array-is : (xs : List Expr) (local type : ℕ) → lowerArray (exprsOf xs) local type ≡ arrayCode (length xs) local type (lowerElements (exprsOf xs) local type 0)
 unfolding lowerArray arrayCode exprsOf
 array-is [] local type = refl
-array-is (x ∷ xs) local type = rw (long-exprs xs)
+array-is (x ∷ xs) local type = rw (length-exprs xs)
 
 pub no-array : (n local type : ℕ) (p : Code) → n ≡ 0 → arrayCode n local type p ≡ done
 unfolding arrayCode

@@ -1,10 +1,11 @@
 -- A whole unit: the code of its bytes, and what lower answers with what it leaves in the buffers.
 use Prim.Native.Nat.{ℕ}
 use mathlib.Core.List.{List}
+use Rattle.definitions.specs.Answer.{Result, made, refusal}
 use Rattle.definitions.specs.Read.{parseUnit}
 use Rattle.definitions.specs.Code.{Code}
 use Rattle.definitions.specs.Lower as Lower
-use Rattle.definitions.specs.Stage.{Lowering, listed, turned}
+use Rattle.definitions.specs.Stage.{Lowering, listed, turned, Measured}
 use Rattle.steps.specs.Running.{Cells}
 use Rattle.steps.specs.Walked.{codeOf}
 use Rattle.assemble.specs.declared.Lowered.{Lowered}
@@ -21,3 +22,8 @@ zeros o m = record { offset = 0; labels = 0; count = 0; out = o; marks = m }
 unfoldable pub answer : Lowered → (out marks : List ℕ) → Lowering
 answer (Done c) o m = listed (c .offset) (c .labels) (c .count) o m
 answer (Refused q) o m = turned (q .number) (q .place) (q .extra) o m
+
+-- the same of a measure
+unfoldable pub measuring : Lowered → Result Measured
+measuring (Done c) = made (record { offset = c .offset; labels = c .labels; count = c .count })
+measuring (Refused q) = refusal (q .number) (q .place) (q .extra)

@@ -3,10 +3,10 @@ ghost use mathlib.Core.Path.{_≡_};
 ghost use mathlib.Core.List.{[]};
 ghost use lib.ListN.{length};
 ghost use Rattle.definitions.specs.Read.{parseUnit};
-ghost use Rattle.definitions.specs.Stage.{lowerInto, lowerTo};
+ghost use Rattle.definitions.specs.Stage.{lowerInto, lowerTo, measure};
 ghost use Rattle.steps.specs.Running.{run};
 ghost use Rattle.steps.specs.Walked.{Accepted, ran};
-ghost use Rattle.assemble.specs.Whole.{unitCode, zeros, answer};
+ghost use Rattle.assemble.specs.Whole.{unitCode, zeros, answer, measuring};
 
 mod arms;
 mod nodes;
@@ -57,6 +57,20 @@ fn dry_walk(s: &[u8], out: &mut [u8], marks: &mut [u32]) -> Walk
     real_walk(s, &mut out[0..0], &mut marks[0..0])
 }
 
+// The totals of a unit that was read, or why it is not lowered.
+fn measure_read(s: &[u8]) -> Lowered
+    requires { ⌜ Accepted (parseUnit (now s)) ⌝ }
+    ensures { λ r. ⌜ measuring r ≡ measure (now (s .entry)) ⌝ }
+{
+    let mut out = [0u8; 1];
+    let mut marks = [0u32; 1];
+    let walk = real_walk(s, &mut out, &mut marks);
+    match walk {
+        Walk::Stopped(q) => Lowered::Refused(q),
+        Walk::Going(c) => Lowered::Done(c),
+    }
+}
+
 // A unit that was read: a dry walk, the refusals 20 and 21, the walk and the listing's front.
 fn lower_read(s: &[u8], out: &mut [u8], marks: &mut [u32]) -> Lowered
     requires { ⌜ Accepted (parseUnit (now s)) ⌝ }
@@ -105,5 +119,19 @@ pub fn lower(unit: &[u8], out: &mut [u8], marks: &mut [u32]) -> Lowered
             returns: _returns,
             end: _end,
         } => lower_read(unit, out, marks),
+    }
+}
+
+// What a unit takes: its totals, whatever room there is, or the refusal.
+pub fn measure(unit: &[u8]) -> Lowered
+    ensures { λ r. ⌜ measuring r ≡ measure (now (unit .entry)) ⌝ }
+{
+    let read = ir::read_unit(unit);
+    match read {
+        ReadUnit::Fails(q) => Lowered::Refused(q),
+        ReadUnit::Reads {
+            returns: _returns,
+            end: _end,
+        } => measure_read(unit),
     }
 }

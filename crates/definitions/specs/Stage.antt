@@ -30,6 +30,15 @@ lowerInto s bytes words =
     onward (labelled s) λ l.
     checked (leb (listingLength (length (l .instrs))) bytes) 20 0 0 (checked (leb (length (l .marks)) words) 21 0 0 (made l))
 
+-- measuring: what a unit takes, whatever room there is
+pub record Measured : Type 0 where
+  pub offset : ℕ
+  pub labels : ℕ
+  pub count : ℕ
+
+unfoldable pub measure : (s : List ℕ) → Result Measured
+measure s = onward (labelled s) λ l. made (record { offset = l .offset; labels = length (l .marks); count = length (l .instrs) })
+
 -- a buffer after something is written at its start: "words past the last label and bytes past the listing are not written"
 unfoldable pub over : (written before : List ℕ) → List ℕ
 over w b = w ++ drop (length w) b

@@ -116,7 +116,7 @@ unfoldable pub putAll : List Field → List ℕ → List ℕ
 putAll [] s = s
 putAll (f ∷ fs) s = putAll fs (stored (f .0) (f .1) (f .2) s)
 
-skip : (p q : List ℕ) (at w : ℕ) → length p ≡ at → drop (at + w) (p ++ q) ≡ drop w q
+pub skip : (p q : List ℕ) (at w : ℕ) → length p ≡ at → drop (at + w) (p ++ q) ≡ drop w q
 skip p q at w l = rw (← l) (drop-append-add p q w)
 
 -- together they are their bytes, and what stood before and after them stays

@@ -20,7 +20,7 @@ use Rattle.instr.proofs.ListingLaws.{whole, few, length-records, front-
 
 -- 1. A check that passed
 
-passed : (b : Bool) (is : List Instr) (n : ℕ) → made n ≡ counted (checked b 30 0 0 (made is)) → (b ≡ true) × (n ≡ length is)
+pub passed : (b : Bool) (is : List Instr) (n : ℕ) → made n ≡ counted (checked b 30 0 0 (made is)) → (b ≡ true) × (n ≡ length is)
 unfolding counted checked
 passed true is n e = (refl, cc)
 passed false is n e = let z : _≡_ {A = ℕ} 0 1 = cc in absurd (omega arith)

@@ -200,7 +200,7 @@ items-on : {A : Type 0} (p : Parser A) (fuel stop at : ℕ) → at < stop → it
 unfolding items
 items-on p fuel stop at h = simp (lt-ltb at stop h, items)
 
-items-end : {A : Type 0} (p : Parser A) (fuel stop at : ℕ) → stop ≤ at → items p (suc fuel) stop at ≡ ok [] stop
+pub items-end : {A : Type 0} (p : Parser A) (fuel stop at : ℕ) → stop ≤ at → items p (suc fuel) stop at ≡ ok [] stop
 unfolding items
 items-end p fuel stop at h = simp (le-ltb at stop h, items)
 

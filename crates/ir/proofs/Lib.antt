@@ -1,6 +1,6 @@
 -- What the proofs of several functions use. `Inversion` and the three after it are for the crates that link this one too.
 pub mod Laws
-mod FieldLaws
+pub mod FieldLaws
 mod NodeLaws
 mod Shapes
 mod UnitLaws

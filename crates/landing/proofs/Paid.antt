@@ -22,11 +22,12 @@ use Rattle.laws.proofs.Inversion.{refused-not-ok, bind-ok}
 use Rattle.laws.proofs.Tables.{every, at as table}
 use Rattle.laws.proofs.Sizes.{tagTotal, total-is, size-limit, sized}
 use Rattle.laws.proofs.Picked.{const-plain, null-plain, element-plain, local-plain, intrinsic-plain, intrinsic-small}
+use Rattle.laws.proofs.Trees.{length-cases}
 use Rattle.landing.specs.Distance.{sizeWeak, sizeField, sizeSkip, sizeNops, sizeInvoke, sizeCall, sizeExpr, sizeExprs, sizeArgs, sizeElements, sizeArray, sizeAfterReturn, sizeStmt, sizeMatchers, sizeBlocks, sizeCases, sizeLast, sizeBranches, sizeDefault, sizeBlock, sizeOf}
 use Rattle.landing.specs.Walk.{Bytes}
 use Rattle.landing.proofs.Counts.{oneIf, countField, countExpr, countExprs, countArgs, countElements, countArray, countReturn, countStmt, countMatchers, countBlocks, countCases, countLast, countBranches, countDefault, countBlock}
 use Rattle.landing.proofs.Fits.{Fine, marks, seq, labels, manyLabels, either, required, bare, carry}
-use Rattle.landing.proofs.Parts.{weak-fine, field-fine, CalleeFits, call-fine, FineExpr, exprs-fine, args-fine, array-fine, default-fine, return-nothing, return-fine, Known, jumpTo-fine, FineStmt, FineArm, FineDefault, block-fine, absent-fine, present-fine, branches-fine, cases-fine, length-cases, matchers-fine, bodies-fine}
+use Rattle.landing.proofs.Parts.{weak-fine, field-fine, CalleeFits, call-fine, FineExpr, exprs-fine, args-fine, array-fine, default-fine, return-nothing, return-fine, Known, jumpTo-fine, FineStmt, FineArm, FineDefault, block-fine, absent-fine, present-fine, branches-fine, cases-fine, matchers-fine, bodies-fine}
 use Rattle.landing.proofs.Bytes.{_&_, Pays, Item, passed, over, gives, unsigned-pays, tested, byteBelow-pays, markBytes-pays, sum, run-pays, run-within, over-ended, node-item, unknown-pays, pick-pays}
 
 -- 1. Expressions: what a list of them takes

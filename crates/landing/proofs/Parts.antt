@@ -1,6 +1,6 @@
 -- The parts of lowering emit only records that fit, where what was read does.
 use Prim.Native.Nat.{ℕ, zero, suc, _+_, _^_, _<_}
-use mathlib.Core.Path.{_≡_, refl, ap}
+use mathlib.Core.Path.{refl}
 use mathlib.Core.List.{List, [], _∷_}
 use mathlib.Core.Option.{Option, none, some}
 use mathlib.Core.Bool.{Bool, true, false, cond}
@@ -9,12 +9,13 @@ use lib.Dec.{ltb}
 use lib.ListN.{length, getD}
 use Rattle.definitions.specs.Tag
 use Rattle.definitions.specs.Tag.{rows, rowOf, defaultTags}
-use Rattle.definitions.specs.Tree.{Callee, Expr, Exprs, Stmt, Block, Default, absent, present, exprsOf, blockOf, branchesOf, casesOf, lengthExprs, lengthCases}
+use Rattle.definitions.specs.Tree.{Callee, Expr, Exprs, Stmt, Block, Default, absent, present, exprsOf, blockOf, branchesOf, casesOf}
 use Rattle.definitions.specs.Instr.{plain, unused0}
 use Rattle.definitions.specs.Code.{Code, emits, labelLimit}
 use Rattle.definitions.specs.Lower.{weakToRef, lowerField, lowerArg, nops, emitInvoke, emitCall, lowerExpr, lowerExprs, lowerArgs, lowerElements, lowerArray, primitiveDefault, defaultInstrs, lowerReturn, lowerReturnNothing, BlockSpan, jumpTo, endsGroup, inGroup, lowerStmt, lowerMatchers, lowerBodies, lowerBlocks, lowerCases, lowerLast, lowerBranches, lowerDefault, lowerBlock}
 use Rattle.laws.proofs.Sizes.{sized}
 use Rattle.laws.proofs.Picked.{primitive-plain}
+use Rattle.laws.proofs.Trees.{length-exprs}
 use Rattle.landing.specs.Landed.{Each}
 use Rattle.landing.proofs.Fits.{Fits, masked-below, plain-fits, Fine, nothing, marks, refuses, seq, labels, either, straight, bare, carry, flagged}
 
@@ -79,11 +80,6 @@ elements-fine [] l t i w h = nothing
 elements-fine (x ∷ xs) l t i w h =
     seq (straight _ (plain-fits Tag.Assign 0 0 (omega (arith, sized)), (plain-fits Tag.ArrayElement 0 t (omega (arith, sized)), (plain-fits Tag.Local 0 l (omega (arith, sized)), (plain-fits Tag.U64Const 0 i (omega (arith, sized)), tt)))))
     (seq (h .0) (elements-fine xs l t (i + 1) (omega arith) (h .1)))
-
-length-exprs : (xs : List Expr) → lengthExprs (exprsOf xs) ≡ length xs
-unfolding lengthExprs exprsOf
-length-exprs [] = refl
-length-exprs (x ∷ xs) = ap suc (length-exprs xs)
 
 pub array-fine : (xs : List Expr) (l t : ℕ) → (l < 256 ^ 4) × (t < 256 ^ 4) × (length xs < 256 ^ 4) → Each FineExpr xs → Fine (lowerArray (exprsOf xs) l t)
 unfolding lowerArray exprsOf
@@ -171,11 +167,6 @@ absent-fine span k = (nothing, nothing)
 pub present-fine : (b : Block) → FineBlock b → FineDefault (present b)
 unfolding lowerStmt
 present-fine b h span k = (h span k, seq (bare Tag.SwitchDefault 0 0 (omega (arith, sized))) (h span k))
-
-pub length-cases : (xs : List (Expr × Block)) → lengthCases (casesOf xs) ≡ length xs
-unfolding lengthCases casesOf
-length-cases [] = refl
-length-cases (x ∷ xs) = ap suc (length-cases xs)
 
 module _ (span : BlockSpan) (known : Known span) (at : ℕ) where
   pub branches-fine : (xs : List (Expr × Block)) (next exit : ℕ) → (next < labelLimit) × (exit < labelLimit) → Each FineArm xs → Fine (lowerBranches (branchesOf xs) at next exit span)

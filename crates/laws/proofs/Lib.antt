@@ -6,3 +6,4 @@ pub mod Tables
 pub mod Sizes
 pub mod Picked
 pub mod Widths
+pub mod Trees

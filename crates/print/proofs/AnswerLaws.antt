@@ -23,7 +23,7 @@ use Rattle.instr.specs.Values.{checkedIs, counted}
 use Rattle.instr.specs.declared.listings.Checked.{Checked}
 use Rattle.instr.specs.declared.listings.Checked.the-variants as listing
 use Rattle.instr.proofs.ListingLaws.{length-records}
-use Rattle.instr.proofs.WholeLaws.{written-is-read}
+use Rattle.instr.proofs.WholeLaws.{passed, written-is-read}
 use Rattle.print.specs.declared.Form.the-variants.{Distances}
 use Rattle.print.specs.declared.Text.{Text}
 use Rattle.print.specs.declared.Text.the-variants.{Done, Bad, Short}
@@ -75,11 +75,6 @@ module _ (p : Printed) {r : ℕ} {v s : List ℕ} (dry : Wrote (text p) 0 [] r v
 
 -- 2. A listing
 
-good : (b : Bool) (is : List Instr) (n : ℕ) → made n ≡ counted (checked b 30 0 0 (made is)) → (b ≡ true) × (n ≡ length is)
-unfolding counted checked
-good true is n e = (refl, made-is e)
-good false is n e = refusal-not-made (sym e)
-
 bad : (b : Bool) (is : List Instr) → refusal 30 0 0 ≡ counted (checked b 30 0 0 (made is)) → b ≡ false
 unfolding counted checked
 bad true is e = refusal-not-made e
@@ -89,7 +84,7 @@ module _ (s : List ℕ) (c : Checked) (e : checkedIs c ≡ counted (readListing 
   read : (n : ℕ) → c ≡ listing.Good n → (listingFront s && allGood (recordsOf s) ≡ true) × (n ≡ countOf s)
   unfolding checkedIs readListing
   read n h =
-      let g = good (listingFront s && allGood (recordsOf s)) (recordsOf s) n (rw h at e) in
+      let g = passed (listingFront s && allGood (recordsOf s)) (recordsOf s) n (rw h at e) in
       (g .0, g .1 ∙ length-records (countOf s) s frontLength)
 
   pub few-records : (n : ℕ) → c ≡ listing.Good n → n ≤ recordLimit

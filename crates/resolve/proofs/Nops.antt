@@ -26,6 +26,7 @@ use Rattle.definitions.specs.Resolve.{inRange, word, resolve}
 use Rattle.definitions.specs.Stage.{lowerInto, over, listed, lowerTo, coded, unresolved, resolveTo}
 use Rattle.laws.proofs.Tables.{every}
 use Rattle.instr.proofs.NumberLaws.{read-back}
+use Rattle.ir.proofs.Inversion.{items-end}
 use Rattle.landing.specs.Distance.{back, sizeExpr, sizeBlock, sizeStmt, distExpr, distBlock, distStmt, distancesOf}
 use Rattle.landing.specs.Landed.{left, filledField, filled, orElse, farField, firstFar, firstOut}
 use Rattle.landing.specs.Walk.{Bytes}
@@ -95,10 +96,6 @@ module _ (s : List ℕ) (end at v stop : ℕ) (e : number 4 s at ≡ v) (d : at 
   reads-node body kind l k b = simp (reads-span, reads-unsigned s at stop 1 (at + 4) kind (omega arith) k, b, eq-eqb stop stop refl, node, head, ended, give, _>>=_, bind)
 
 -- items up to the end of their run
-no-item : {A : Type 0} (p : Parser A) (fuel stop at : ℕ) → stop ≤ at → items p (suc fuel) stop at ≡ ok [] stop
-unfolding items
-no-item p fuel stop at h = simp (le-ltb at stop h, items)
-
 next-item : {A : Type 0} (p : Parser A) (fuel stop at next : ℕ) {x : A} {xs : List A} → at < stop → p at ≡ ok x next → items p fuel stop next ≡ ok xs stop → items p (suc fuel) stop at ≡ ok (x ∷ xs) stop
 unfolding items bind
 next-item p fuel stop at next h e r = simp (lt-ltb at stop h, items, e, bind, r)
@@ -153,7 +150,7 @@ nop-stmt d s rest holder at e h =
 
 nops-read : (d : ℕ) (s : List ℕ) (stop n fuel at : ℕ) → n ≤ fuel → drop at s ≡ nopsBytes n → at + 10 * n ≡ stop → items (parseStmt (suc (suc d)) s stop) (suc fuel) stop at ≡ ok (nopsAt at n) stop
 unfolding nopsAt nopsBytes
-nops-read d s stop zero fuel at h e f = no-item _ fuel stop at (omega arith)
+nops-read d s stop zero fuel at h e f = items-end _ fuel stop at (omega arith)
 nops-read d s stop (suc n) zero at h e f = absurd (omega arith)
 nops-read d s stop (suc n) (suc fuel) at h e f =
     next-item _ (suc fuel) stop at (at + 10) (omega arith) (nop-stmt d s (nopsBytes n) stop at e (omega arith)) (nops-read d s stop n fuel (at + 10) (omega arith) (further 10 s _ at e) (omega arith))
@@ -223,7 +220,7 @@ module _ (s : List ℕ) (n : ℕ) (k : Shaped s n) where
   unit-reads =
       let stop = 26 + 10 * n in
       let f : stop - 10 ≡ suc (15 + 10 * n) = omega arith in
-      let one : items (parseStmt 200 s stop) (suc (stop - 10)) stop 10 ≡ ok (loopOf ∷ []) stop = rw f (next-item _ _ stop 10 stop (omega arith) (while-reads 197) (no-item _ _ stop stop (omega arith))) in
+      let one : items (parseStmt 200 s stop) (suc (stop - 10)) stop 10 ≡ ok (loopOf ∷ []) stop = rw f (next-item _ _ stop 10 stop (omega arith) (while-reads 197) (items-end _ _ stop stop (omega arith))) in
       let r = reads-run s stop 6 (16 + 10 * n) stop (k .run) (omega arith) (omega arith) (parseStmt 200 s) one in
       simp (front-good, parseUnit, k .long, r, bind, ended, eq-eqb stop stop refl, k .returns)
 

@@ -6,7 +6,7 @@ use native.Mathlib.Omega.{arith}
 use native.Mathlib.Numerals.{add-one}
 use lib.Dec.{leb}
 use lib.ListN.{length, take, drop, length-append, length-drop, take-append-drop}
-use lib.Seq.{take-at, drop-at, take-length, drop-length, drop-drop, drop-append-add, append-snoc, length-take-le}
+use lib.Seq.{take-at, drop-at, take-length, drop-length, drop-drop, append-snoc, length-take-le}
 use borrow.Author.Tests.{le-leb, lt-leb}
 use borrow.Rule.Slice.PartMut.{putMid}
 use Rattle.definitions.specs.Answer.{Result, made, refusal, onward, checked}
@@ -23,6 +23,7 @@ use Rattle.instr.specs.declared.listings.Checked.the-variants.{Good, Bad}
 use Rattle.instr.specs.Values.{instrOf, checkedIs, counted, written, front, frontFits, frontWritten}
 use Rattle.instr.proofs.NumberLaws.{length-bytes}
 use Rattle.instr.proofs.ListingLaws.{length-records}
+use Rattle.instr.proofs.RecordLaws.{skip}
 use Rattle.resolve.proofs.Listed.{resolved-length}
 use Rattle.instr.proofs.WholeLaws.{records-snoc, Accepted, accepted, length-record, length-records-bytes, length-listing}
 use Rattle.ir.specs.declared.Refusal.{Refusal}
@@ -130,9 +131,6 @@ pub coding-start : (s marks : List ℕ) (count : ℕ) (o : List ℕ) → listing
 unfolding recordsBytes
 coding-start s marks count o h = record { done = []; gone = gone-start s marks count; room = h; long = refl; wrote = sym (ap (λ y. y ++ drop frontLength o) (append-nil (take frontLength o)) ∙ take-append-drop frontLength o) }
 
-past : (p q : List ℕ) (at w : ℕ) → length p ≡ at → drop (at + w) (p ++ q) ≡ drop w q
-past p q at w l = rw (← l) (drop-append-add p q w)
-
 regroup : (a b c d : List ℕ) → (a ++ b) ++ (c ++ d) ≡ (a ++ (b ++ c)) ++ d
 regroup a b c d = simp append-assoc
 
@@ -176,7 +174,7 @@ module _ {s marks : List ℕ} {count n start : ℕ} {o out : List ℕ} (c : Codi
       let b : o ≡ front count ++ drop frontLength out₀ = rw (le-leb count recordLimit few, le-leb frontLength (length out₀) (omega (arith, c .room, same))) at f in
       let five : length (front count) ≡ frontLength = ap suc (length-bytes 4 (recordLength * count)) in
       let t : take frontLength o ≡ front count = rw b (take-at (front count) (drop frontLength out₀) frontLength five) in
-      let u : drop (listingLength count) o ≡ drop (listingLength count) out₀ = rw b (past (front count) (drop frontLength out₀) frontLength (recordLength * count) five ∙ drop-drop (recordLength * count) frontLength out₀) in
+      let u : drop (listingLength count) o ≡ drop (listingLength count) out₀ = rw b (skip (front count) (drop frontLength out₀) frontLength (recordLength * count) five ∙ drop-drop (recordLength * count) frontLength out₀) in
       let w : out ≡ (front count ++ recordsBytes (c .done)) ++ drop (listingLength count) out₀ = rw (n-is, t, u) at (c .wrote) in
       rw (e .0, over-listing (c .done) out₀, e .1) (ap (coded count) w)
 

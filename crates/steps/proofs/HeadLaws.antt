@@ -16,6 +16,7 @@ use Rattle.definitions.specs.Read.{parseExpr}
 use Rattle.definitions.specs.Code.{Code, done, _then_, act, emit}
 use Rattle.definitions.specs.Lower.{BlockSpan, instr, require, nullTag, elementTag, localTag, lowerExpr, lowerExprs}
 use Rattle.laws.proofs.Arms.{None, those, others, past, one-of}
+use Rattle.laws.proofs.Trees.{length-exprs}
 use Rattle.ir.specs.Places.{endOf, ExprAt, RunAt}
 use Rattle.ir.specs.declared.Class.the-variants.{Expression}
 use Rattle.ir.proofs.Inversion.{expr-at, expr-moves, fill-nil, fill-cons}
@@ -165,11 +166,6 @@ two-after : (p : Code) (a b : Expr) → SameRun (p then all (a ∷ b ∷ [])) (p
 unfolding lowerExpr exprsOf
 two-after p a b = same-right p (same-right (lowerExpr a) (same-end (lowerExpr b)))
 
-pub long-exprs : (xs : List Expr) → lengthExprs (exprsOf xs) ≡ length xs
-unfolding lengthExprs exprsOf
-long-exprs [] = refl
-long-exprs (x ∷ xs) = ap suc (long-exprs xs)
-
 module _ (depth : ℕ) (s : List ℕ) (end at : ℕ) (acc : Accepted (parseExpr depth s end at)) where
   abbrev stop : ℕ
   stop = endOf s at
@@ -276,7 +272,7 @@ module _ (depth : ℕ) (s : List ℕ) (end at : ℕ) (acc : Accepted (parseExpr 
   construct-parts k =
       let c = construct-at depth s end at (acc .0) stop reads k in
       let r = run-at (at + 9) (at + 13) (omega arith) (c .run) in
-      let n : length (listOf (exprsFrom below s stop (at + 13))) ≡ lengthExprs (exprsOf (c .args)) = ap length (listed _ _ _ (r .1)) ∙ sym (long-exprs (c .args)) in
+      let n : length (listOf (exprsFrom below s stop (at + 13))) ≡ lengthExprs (exprsOf (c .args)) = ap length (listed _ _ _ (r .1)) ∙ sym (length-exprs (c .args)) in
       parted 5 13 (c .args) k refl (λ z. omega (arith, z)) (r .1) (r .0)
       (same-on (same-code (ap (λ m. (require (ltb m 256) 12 at m then act (emit (plain Construct m (number 4 s (at + 5))))) then all (c .args)) n)) (same-on (same-back (same-assoc _ _ _)) (same-code (ap lowerExpr (sym (c .tree))))))
 

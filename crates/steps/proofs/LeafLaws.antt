@@ -23,7 +23,6 @@ use Rattle.instr.specs.Values.{kth, defaultTagIs}
 use Rattle.instr.specs.declared.tables.DefaultTag.{DefaultTag}
 use Rattle.instr.specs.declared.tables.DefaultTag.the-variants.{Is, NoValue}
 use Rattle.instr.proofs.tables.DefaultTag.{the-type as default-type}
-use Rattle.ir.proofs.Inversion.{one-byte as byte-number}
 use Rattle.instr.proofs.TableLaws.{kth-in, kth-past}
 use Rattle.laws.proofs.Results.{onward-assoc, onward-made}
 use Rattle.steps.proofs.StepLaws.{emitted-both, none-emitted, nothing}
@@ -59,9 +58,6 @@ const-past b v h = rw (constTag, ne-eqb b 9 (omega arith), ne-eqb b 15 (omega ar
 
 pub by-width : (b k v : ℕ) (s : List ℕ) (at : ℕ) → b ≡ k → v ≡ number (getD constWidths k 0) s at → v ≡ number (getD constWidths b 0) s at
 by-width b k v s at e h = h ∙ ap (λ n. number (getD constWidths n 0) s at) (sym e)
-
-pub one-byte : (s : List ℕ) (at v b : ℕ) → b ≡ getD s at 0 → v ≡ b → v ≡ number 1 s at
-one-byte s at v b h e = e ∙ h ∙ sym (byte-number s at)
 
 pub no-width : (s : List ℕ) (at b : ℕ) → 16 ≤ b → 0 ≡ number (getD constWidths b 0) s at
 unfolding constWidths number

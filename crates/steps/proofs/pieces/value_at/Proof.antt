@@ -1,6 +1,7 @@
 use Rattle.definitions.specs.Tag.{constWidths}
 use Rattle.laws.proofs.Arms.{those, past-first}
-use Rattle.steps.proofs.LeafLaws.{by-width, one-byte, no-width}
+use Rattle.ir.proofs.FieldLaws.{one-byte}
+use Rattle.steps.proofs.LeafLaws.{by-width, no-width}
 use borrow.Author.Needs.{needs}
 use Rattle.steps.proofs.pieces.value_at.Statement.{statement}
 use Rattle.steps.proofs.pieces.value_at.Tie as tie

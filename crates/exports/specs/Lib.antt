@@ -1,0 +1,2 @@
+-- What an exported function answers.
+pub mod Numbers

@@ -1,0 +1,39 @@
+/* Delzhomo: an assembler for script mods, proved. The functions of the static library, for C and Rust.
+ *
+ * Every function takes any arguments: a slice is a pointer and a length, and an empty one may have any pointer that is not null. Each
+ * answers true with what was made in *first, *second and *third, or false with number, place and extra number of the refusal. A refusal
+ * leaves every buffer as it was. A number that is not named below is 0. Document 01 lists the refusals.
+ */
+#ifndef DELZHOMO_H
+#define DELZHOMO_H
+
+#include <stdbool.h>
+#include <stddef.h>
+#include <stdint.h>
+
+#ifdef __cplusplus
+extern "C" {
+#endif
+
+/* What a unit takes: how many records and labels, and its total size. A listing of n records has 5 + 18 n bytes. */
+bool delzhomo_measure(const uint8_t *unit, size_t unit_length, size_t *first, size_t *second, size_t *third);
+
+/* The labelled listing of a unit into out and its label table into marks: how many records and labels, and its total size. */
+bool delzhomo_lower(const uint8_t *unit, size_t unit_length, uint8_t *out, size_t out_length, uint32_t *marks, size_t marks_length,
+                    size_t *first, size_t *second, size_t *third);
+
+/* The listing with distances in place of its labels, into out: how many records. */
+bool delzhomo_resolve(const uint8_t *listing, size_t listing_length, const uint32_t *marks, size_t marks_length, uint8_t *out,
+                      size_t out_length, size_t *first, size_t *second, size_t *third);
+
+/* Whether a slice is a listing: how many records. */
+bool delzhomo_check(const uint8_t *listing, size_t listing_length, size_t *first, size_t *second, size_t *third);
+
+/* Where a record of a listing begins, and its length. */
+bool delzhomo_view(const uint8_t *listing, size_t listing_length, size_t number, size_t *first, size_t *second, size_t *third);
+
+#ifdef __cplusplus
+}
+#endif
+
+#endif

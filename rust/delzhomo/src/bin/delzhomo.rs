@@ -1,0 +1,365 @@
+//! The command line tool: units in, code, drawings and refusals out.
+
+use std::ffi::OsString;
+use std::fmt::Write as _;
+use std::fs;
+use std::io::{self, Read, Write};
+use std::process::ExitCode;
+
+use delzhomo::{Assembler, Instruction, Listing, Place, Refusal, Unit, check, measure, view};
+
+const HELP: &str = "\
+usage: delzhomo COMMAND FILE [OPTION..]
+
+Assembles script units. FILE is a unit, as raw bytes or in commented hexadecimal; - is standard input.
+
+  stage FILE      the unit's code with jump distances
+  labelled FILE   the same before the jumps are resolved: label numbers, then the label table
+  check FILE      whether the unit has code: how many records and labels, and the total size
+  view FILE N     record N of the code, from 0 on
+  draw FILE       the code with arrows from each jump to where it lands
+
+  --hex, --raw    FILE is hexadecimal, or raw bytes (else its content decides)
+  --listing       check, view, draw: FILE is a listing with distances, not a unit
+  --bytes         stage, labelled: write the listing itself
+  --ascii         draw: no box characters
+  --columns N     draw: at most N columns of arrows
+  --help          this text
+
+A line of code has start, tag, small, first, second, line, flags and value. A refusal is printed as `refused` and its
+number, place and extra number, and explained on standard error.
+
+Status: 0 without a refusal, 1 refused, 2 wrong usage or a file that cannot be read.
+";
+
+fn main() -> ExitCode {
+    let mut out = Vec::new();
+    let ending = run(&mut out);
+    let written = print(&out, &ending);
+    match (ending, written) {
+        (_, Err(error)) => complain(&format!("standard output: {error}"), 2),
+        (Ok(()), Ok(())) => ExitCode::SUCCESS,
+        (Err(Failure::Refused { said, .. }), Ok(())) => complain(&said, 1),
+        (Err(Failure::Usage(said)), Ok(())) => complain(&format!("{said}; --help says more"), 2),
+        (Err(Failure::File(said)), Ok(())) => complain(&said, 2),
+    }
+}
+
+/// The output, or the refusal in document 01's form.
+fn print(out: &[u8], ending: &Result<(), Failure>) -> io::Result<()> {
+    let mut stdout = io::stdout().lock();
+    match ending {
+        Err(Failure::Refused { refusal, .. }) => writeln!(stdout, "{}", refusal.line())?,
+        _ => stdout.write_all(out)?,
+    }
+    stdout.flush()
+}
+
+fn complain(said: &str, status: u8) -> ExitCode {
+    // where standard error is closed too there is nobody left to tell
+    let _ = writeln!(io::stderr(), "delzhomo: {said}");
+    ExitCode::from(status)
+}
+
+/// Why there is no output.
+enum Failure {
+    Usage(String),
+    File(String),
+    Refused { refusal: Refusal, said: String },
+}
+
+impl From<Refusal> for Failure {
+    fn from(refusal: Refusal) -> Self {
+        Self::Refused {
+            refusal,
+            said: refusal.to_string(),
+        }
+    }
+}
+
+type Outcome<T = ()> = Result<T, Failure>;
+
+fn run(out: &mut Vec<u8>) -> Outcome {
+    let Some(request) = Request::parse(std::env::args_os().skip(1))? else {
+        out.extend_from_slice(HELP.as_bytes());
+        return Ok(());
+    };
+    let bytes = decode(read(&request.file)?, &request)?;
+    let mut assembler = Assembler::new();
+    if request.listing {
+        return on_listing(&request, Listing::from_bytes(&bytes)?, out);
+    }
+    let unit = Unit::from_bytes(bytes);
+    on_unit(&request, &unit, &mut assembler, out).map_err(|failure| explain(failure, &unit))
+}
+
+fn on_unit(
+    request: &Request,
+    unit: &Unit,
+    assembler: &mut Assembler,
+    out: &mut Vec<u8>,
+) -> Outcome {
+    match request.command {
+        Command::Labelled => {
+            let labelled = assembler.lower(unit)?;
+            put(request, labelled.bytes(), &labelled, out);
+        }
+        Command::Stage => {
+            let listing = assembler.assemble(unit)?;
+            put(request, listing.bytes(), &listing, out);
+        }
+        Command::Check => {
+            assembler.assemble(unit)?;
+            let totals = measure(unit)?;
+            out.extend_from_slice(
+                format!(
+                    "records {} labels {} size {}\n",
+                    totals.records, totals.labels, totals.size
+                )
+                .as_bytes(),
+            );
+        }
+        Command::View | Command::Draw => on_listing(request, assembler.assemble(unit)?, out)?,
+    }
+    Ok(())
+}
+
+fn on_listing(request: &Request, listing: Listing<'_>, out: &mut Vec<u8>) -> Outcome {
+    let text = match request.command {
+        Command::Check => format!("records {}\n", check(listing.bytes())?),
+        Command::View => record(listing, request.number)?,
+        Command::Draw => {
+            let drawing = listing.draw().ascii(request.ascii);
+            let columns = request.columns;
+            columns
+                .map_or(drawing, |columns| drawing.columns(columns))
+                .to_string()
+        }
+        Command::Stage | Command::Labelled => {
+            return Err(Failure::Usage("a listing is not lowered again".into()));
+        }
+    };
+    out.extend_from_slice(text.as_bytes());
+    Ok(())
+}
+
+fn put(request: &Request, bytes: &[u8], text: &impl ToString, out: &mut Vec<u8>) {
+    if request.bytes {
+        out.extend_from_slice(bytes);
+    } else {
+        out.extend_from_slice(text.to_string().as_bytes());
+    }
+}
+
+/// The line of a record. The library decides whether there is such a record.
+fn record(listing: Listing<'_>, number: usize) -> Outcome<String> {
+    view(listing.bytes(), number)?;
+    let found: Option<Instruction> = listing.iter().nth(number);
+    Ok(found.map_or(String::new(), |record| format!("{record}\n")))
+}
+
+/// Adds to a refusal what the unit shows of its place: the nodes down to it, or the instruction.
+fn explain(failure: Failure, unit: &Unit) -> Failure {
+    let Failure::Refused { refusal, mut said } = failure else {
+        return failure;
+    };
+    match refusal.place() {
+        Place::Unit(place) => {
+            let path: Vec<String> = unit.path(place).iter().map(ToString::to_string).collect();
+            if !path.is_empty() {
+                // writing to a String does not fail
+                let _ = write!(said, "\n  path: {}", path.join(" > "));
+            }
+        }
+        Place::Record(number) => {
+            let mut assembler = Assembler::new();
+            let lowered = assembler.lower(unit).ok();
+            if let Some(found) = lowered.and_then(|lowered| lowered.iter().nth(number)) {
+                let _ = write!(
+                    said,
+                    "\n  record {number}: {} at {}",
+                    found.tag, found.start
+                );
+            }
+        }
+        Place::Whole => {}
+    }
+    Failure::Refused { refusal, said }
+}
+
+#[derive(Clone, Copy, PartialEq, Eq)]
+enum Command {
+    Stage,
+    Labelled,
+    Check,
+    View,
+    Draw,
+}
+
+impl Command {
+    fn parse(word: &str) -> Outcome<Self> {
+        match word {
+            "stage" => Ok(Self::Stage),
+            "labelled" => Ok(Self::Labelled),
+            "check" => Ok(Self::Check),
+            "view" => Ok(Self::View),
+            "draw" => Ok(Self::Draw),
+            _ => Err(Failure::Usage(format!("no such command: {word}"))),
+        }
+    }
+}
+
+/// How the bytes stand in the file.
+#[derive(Clone, Copy, PartialEq, Eq)]
+enum Form {
+    ByContent,
+    Hex,
+    Raw,
+}
+
+/// What the command line asks for.
+struct Request {
+    command: Command,
+    file: OsString,
+    number: usize,
+    form: Form,
+    listing: bool,
+    bytes: bool,
+    ascii: bool,
+    columns: Option<usize>,
+}
+
+impl Request {
+    /// The request, or none if help is asked for.
+    fn parse(words: impl Iterator<Item = OsString>) -> Outcome<Option<Self>> {
+        let mut options = Options::default();
+        if !options.take(words)? {
+            return Ok(None);
+        }
+        let mut plain = std::mem::take(&mut options.plain).into_iter();
+        let command = plain.next().ok_or_else(|| missing("COMMAND"))?;
+        let command = Command::parse(&command.to_string_lossy())?;
+        let file = plain.next().ok_or_else(|| missing("FILE"))?;
+        let number = match command {
+            Command::View => number(&plain.next().ok_or_else(|| missing("N"))?)?,
+            _ => 0,
+        };
+        if let Some(extra) = plain.next() {
+            let extra = extra.to_string_lossy();
+            return Err(Failure::Usage(format!("one word too many: {extra}")));
+        }
+        options.fits(command)?;
+        Ok(Some(Self {
+            command,
+            file,
+            number,
+            form: options.form.unwrap_or(Form::ByContent),
+            listing: options.listing,
+            bytes: options.bytes,
+            ascii: options.ascii,
+            columns: options.columns,
+        }))
+    }
+}
+
+/// The words of a command line: options, and the others in order.
+#[derive(Default)]
+struct Options {
+    plain: Vec<OsString>,
+    form: Option<Form>,
+    listing: bool,
+    bytes: bool,
+    ascii: bool,
+    columns: Option<usize>,
+}
+
+impl Options {
+    /// Sorts the words; false if help is asked for.
+    fn take(&mut self, mut words: impl Iterator<Item = OsString>) -> Outcome<bool> {
+        while let Some(word) = words.next() {
+            match word.to_string_lossy().as_ref() {
+                "--help" | "-h" => return Ok(false),
+                "--hex" => self.form = Some(Form::Hex),
+                "--raw" => self.form = Some(Form::Raw),
+                "--listing" => self.listing = true,
+                "--bytes" => self.bytes = true,
+                "--ascii" => self.ascii = true,
+                "--columns" => {
+                    let count = words.next().ok_or_else(|| missing("N of --columns"))?;
+                    self.columns = Some(number(&count)?);
+                }
+                "--" => {
+                    self.plain.extend(words);
+                    return Ok(true);
+                }
+                text if text.starts_with('-') && text != "-" => {
+                    return Err(Failure::Usage(format!("no such option: {text}")));
+                }
+                _ => self.plain.push(word),
+            }
+        }
+        Ok(true)
+    }
+
+    /// An option that a command has no use for is a mistake, not a wish to be passed over.
+    fn fits(&self, command: Command) -> Outcome {
+        let prints = matches!(command, Command::Stage | Command::Labelled);
+        let draws = command == Command::Draw;
+        let misplaced = [
+            ("--bytes", self.bytes && !prints),
+            ("--listing", self.listing && prints),
+            ("--ascii", self.ascii && !draws),
+            ("--columns", self.columns.is_some() && !draws),
+        ];
+        match misplaced.into_iter().find(|&(_, wrong)| wrong) {
+            Some((option, _)) => Err(Failure::Usage(format!("{option} is not for this command"))),
+            None => Ok(()),
+        }
+    }
+}
+
+fn missing(what: &str) -> Failure {
+    Failure::Usage(format!("{what} is missing"))
+}
+
+fn number(word: &OsString) -> Outcome<usize> {
+    let text = word.to_string_lossy();
+    text.parse()
+        .map_err(|_| Failure::Usage(format!("not a number: {text}")))
+}
+
+fn read(file: &OsString) -> Outcome<Vec<u8>> {
+    let content = if file == "-" {
+        let mut content = Vec::new();
+        io::stdin()
+            .lock()
+            .read_to_end(&mut content)
+            .map(|_| content)
+    } else {
+        fs::read(file)
+    };
+    content.map_err(|error| Failure::File(format!("{}: {error}", file.to_string_lossy())))
+}
+
+/// The bytes that the file stands for.
+fn decode(content: Vec<u8>, request: &Request) -> Outcome<Vec<u8>> {
+    let is_hex = match request.form {
+        Form::Hex => true,
+        Form::Raw => false,
+        Form::ByContent => is_text(&content),
+    };
+    if !is_hex {
+        return Ok(content);
+    }
+    let file = request.file.to_string_lossy();
+    let text = String::from_utf8(content)
+        .map_err(|_| Failure::File(format!("{file}: not hexadecimal: this is not text")))?;
+    let unit = Unit::from_hex(&text).map_err(|error| Failure::File(format!("{file}: {error}")))?;
+    Ok(unit.into_bytes())
+}
+
+/// Whether this is a text with something in it. A unit or a listing begins with the byte 01, which no text has.
+fn is_text(content: &[u8]) -> bool {
+    let is_plain = |found: char| !found.is_control() || found.is_ascii_whitespace();
+    !content.is_empty() && str::from_utf8(content).is_ok_and(|text| text.chars().all(is_plain))
+}
