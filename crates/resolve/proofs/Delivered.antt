@@ -191,7 +191,7 @@ delivered s o m bytes total k n out marks e =
     λ w p h. ap (λ y. resolveTo (resolve y w (length p)) p) (d .listing) ∙ answers s bytes u (d .next) (d .reads) t (d .lowers) w p (d .table w h) ∙ ap (λ y. delivers far y code p) (d .count) in
     record {
       script = u;
-      reads = rw (← (unit-at s u (d .next) (d .reads) .ends)) (d .reads);
+      reads = d .reads ∙ ap (λ y. ok u y) (unit-at s u (d .next) (d .reads) .ends);
       instrs = t .instrs;
       holds = ap readListing (d .listing) ∙ reads-again s bytes u (d .next) (d .reads) t (d .lowers);
       resolves = resolves;
