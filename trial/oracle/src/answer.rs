@@ -1,4 +1,4 @@
-//! What is said of a unit, as it is printed.
+//! What is said of a unit, and how it is printed.
 
 use std::fmt;
 use std::panic::{self, AssertUnwindSafe};
@@ -55,7 +55,8 @@ fn lines(unit: &[u8], mode: Mode, options: Options) -> Result<String, Stop> {
 }
 
 /// Why a unit gives no code.
-enum Stop {
+#[derive(Debug, Clone, Copy, PartialEq, Eq)]
+pub enum Stop {
     Refused(Refusal),
     /// The assembler panicked where document 01 has this number, if it is known.
     Panicked(Option<u32>),
@@ -93,7 +94,8 @@ fn check_label_count(unit: &[u8], program: &mut Program, options: Options) -> Re
     }))
 }
 
-fn stage(program: &mut Program, limits: Limits) -> Result<Vec<Instr>, Stop> {
+/// Resolved code.
+pub fn stage(program: &mut Program, limits: Limits) -> Result<Vec<Instr>, Stop> {
     match guarded(|| program.code())? {
         Ok(code) => match too_distant(code.iter().map(Record::resolved), limits) {
             Some(refusal) => Err(Stop::Refused(refusal)),
@@ -108,7 +110,8 @@ fn stage(program: &mut Program, limits: Limits) -> Result<Vec<Instr>, Stop> {
     }
 }
 
-fn labelled(program: &mut Program) -> Result<Labelled, Stop> {
+/// Labelled code and marks.
+pub fn labelled(program: &mut Program) -> Result<Labelled, Stop> {
     guarded(|| program.labelled())?.map_err(|error| Stop::Refused(refusal(&error)))
 }
 

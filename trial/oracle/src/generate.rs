@@ -18,18 +18,46 @@ pub enum Size {
     Medium,
     /// Around the limits: 16-bit distances, 65,536 labels, 255 arguments; or just large.
     Big,
+    /// Around 1,048,576 bytes.
+    Longest,
 }
 
 /// One in four units is damaged after it was made.
 pub fn random_unit(random: &mut Random, size: Size) -> Vec<u8> {
-    let unit = match size {
-        Size::Small => small(random),
-        Size::Medium => medium(random),
-        Size::Big => limits::big(random),
-    };
+    let unit = undamaged_unit(random, size);
     match random.once_in(4) {
         true => damage::damaged(random, unit),
         false => unit,
+    }
+}
+
+/// As it was made, which may be with something wrong in it.
+pub fn undamaged_unit(random: &mut Random, size: Size) -> Vec<u8> {
+    match size {
+        Size::Small => small(random),
+        Size::Medium => medium(random),
+        Size::Big => limits::big(random),
+        Size::Longest => limits::longest(random),
+    }
+}
+
+/// Damaged once or several times, spliced from two, or no unit from the start.
+pub fn damaged_unit(random: &mut Random, size: Size) -> Vec<u8> {
+    match random.between(1, 10) {
+        1 => damage::random_bytes(random),
+        2 => {
+            let unit = undamaged_unit(random, size);
+            let other = undamaged_unit(random, size);
+            damage::spliced(random, unit, &other)
+        }
+        3..=4 => {
+            let unit = undamaged_unit(random, size);
+            damage::often_damaged(random, unit)
+        }
+        _ => {
+            let unit = undamaged_unit(random, size);
+            damage::damaged(random, unit)
+        }
     }
 }
 

@@ -8,7 +8,7 @@ use oracle::cases::to_hex;
 use oracle::generate::{Size, random_unit};
 use oracle::random::Random;
 
-const USAGE: &str = "usage: generate small|medium|big SEED COUNT";
+const USAGE: &str = "usage: generate small|medium|big|longest SEED COUNT";
 
 fn main() -> ExitCode {
     match run() {
@@ -29,6 +29,7 @@ fn run() -> Result<(), String> {
         "small" => Size::Small,
         "medium" => Size::Medium,
         "big" => Size::Big,
+        "longest" => Size::Longest,
         _ => return Err(USAGE.to_string()),
     };
     let mut random = Random::new(seed.parse().map_err(text)?);

@@ -4,6 +4,9 @@ use crate::random::Random;
 
 const FRONT: usize = 6;
 
+/// A unit whose block is empty; every damage needs as many bytes.
+const SHORTEST: usize = 10;
+
 pub fn damaged(random: &mut Random, mut unit: Vec<u8>) -> Vec<u8> {
     match random.between(1, 11) {
         1 => change_byte(random, &mut unit),
@@ -22,6 +25,45 @@ pub fn damaged(random: &mut Random, mut unit: Vec<u8>) -> Vec<u8> {
         }
         6 | 7 => change_length(random, &mut unit),
         _ => change_field(random, &mut unit),
+    }
+    unit
+}
+
+/// Damaged two to six times, as long as there is enough left to damage.
+pub fn often_damaged(random: &mut Random, mut unit: Vec<u8>) -> Vec<u8> {
+    for _ in 0..random.between(2, 6) {
+        if unit.len() < SHORTEST {
+            break;
+        }
+        unit = damaged(random, unit);
+    }
+    unit
+}
+
+/// The first bytes of one unit, then the last of another; the front's length agrees most often.
+pub fn spliced(random: &mut Random, mut unit: Vec<u8>, other: &[u8]) -> Vec<u8> {
+    unit.truncate(random.between(0, unit.len()));
+    unit.extend(&other[random.between(0, other.len())..]);
+    if !random.once_in(8) {
+        fix_front(&mut unit);
+    }
+    unit
+}
+
+/// Up to 120 bytes, most often behind a front that agrees. Small ones are drawn more often: a
+/// length of random bytes fits into nothing.
+pub fn random_bytes(random: &mut Random) -> Vec<u8> {
+    let count = random.between(0, 120);
+    let highest = random.pick(&[1, 3, 16, 255]);
+    let mut byte = || match random.once_in(2) {
+        true => 0,
+        false => random.between(0, highest) as u8,
+    };
+    let mut unit: Vec<u8> = (0..count).map(|_| byte()).collect();
+    if count >= FRONT && !random.once_in(8) {
+        unit[0] = 1;
+        unit[5] &= 1;
+        fix_front(&mut unit);
     }
     unit
 }

@@ -96,6 +96,19 @@ fn around_stmts(random: &mut Random, inner: &[u8]) -> Vec<u8> {
     }
 }
 
+/// A call and Nops of 1,048,573 to 1,048,579 bytes in all. A parameter is a byte.
+pub fn longest(random: &mut Random) -> Vec<u8> {
+    const FRONT: usize = 10;
+    const CALL: usize = 26;
+    const NOP: usize = 10;
+
+    let rest = random.between(1_048_573, 1_048_579) - FRONT - CALL;
+    let params = vec![false; rest % NOP];
+    let call = Maker::new(random, 0, None).call_of(&params, &[]).free();
+    let stmts = [stmt::expr(&call), nops(rest / NOP)];
+    unit(false, &counted(&stmts.concat()))
+}
+
 /// Construct with 254 to 257 arguments.
 fn long_construct(random: &mut Random) -> Vec<u8> {
     let args = expr::nop().repeat(random.between(254, 257));

@@ -1,0 +1,93 @@
+//! Room that just suffices, and a byte or a word less; the viewer; the crate's own buffers.
+
+use delzhomo::{Assembler, Refusal, check, listing_length, lower_into, resolve_into, view};
+
+use crate::compare::Library;
+use crate::difference::{Compared, holds, refusal, same};
+use crate::published::Made;
+
+const LISTING_TOO_SHORT: Refusal = refused(20, 0);
+const TABLE_TOO_SHORT: Refusal = refused(21, 0);
+
+const fn refused(number: usize, place: usize) -> Refusal {
+    Refusal {
+        number,
+        place,
+        extra: 0,
+    }
+}
+
+impl Library {
+    /// Of a unit that lowers.
+    pub fn compare_rooms(&mut self, unit: &[u8], made: &Made) -> Compared<()> {
+        self.lower(unit, made, 0, 0)?;
+        let (length, labels) = (made.listing.len(), made.marks.len());
+        self.short_lower(unit, length - 1, labels, LISTING_TOO_SHORT)?;
+        if let Some(fewer) = labels.checked_sub(1) {
+            self.short_lower(unit, length, fewer, TABLE_TOO_SHORT)?;
+            self.short_lower(unit, length - 1, fewer, LISTING_TOO_SHORT)?;
+        }
+        if let Ok(expected) = &made.resolved {
+            self.resolve(made, expected, 0)?;
+        }
+        self.short_resolve(made)?;
+        compare_views(made)?;
+        compare_assembler(&mut Assembler::new(), unit, made)?;
+        compare_assembler(&mut self.assembler, unit, made)
+    }
+
+    fn short_lower(
+        &mut self,
+        unit: &[u8],
+        bytes: usize,
+        words: usize,
+        expected: Refusal,
+    ) -> Compared<()> {
+        let (listing, marks) = (self.listing.lend(bytes), self.marks.lend(words));
+        let found = lower_into(unit, listing, marks);
+        same("lower with too little room", found, Err(expected))?;
+        self.kept_lowered("lower with too little room", 0, 0)
+    }
+
+    /// A distance that is too long is said before the room.
+    fn short_resolve(&mut self, made: &Made) -> Compared<()> {
+        let expected = match &made.resolved {
+            Ok(_) => LISTING_TOO_SHORT,
+            Err(distant) => refusal(*distant),
+        };
+        let code = self.code.lend(made.listing.len() - 1);
+        let found = resolve_into(&made.listing, &made.marks, code);
+        same("resolve with too little room", found, Err(expected))?;
+        self.kept_code("resolve with too little room", 0)
+    }
+}
+
+/// The whole listing, its last record and the one after it.
+fn compare_views(made: &Made) -> Compared<()> {
+    let count = made.totals.records;
+    same("check", check(&made.listing), Ok(count))?;
+    let past = view(&made.listing, count).map(<[u8]>::len);
+    same("view past the end", past, Err(refused(22, count)))?;
+    let Some(last) = count.checked_sub(1) else {
+        return Ok(());
+    };
+    let found = view(&made.listing, last);
+    let expected = &made.listing[listing_length(last)..];
+    holds("view", found == Ok(expected), "the last record is seen")
+}
+
+/// What the crate gives from its own buffers.
+fn compare_assembler(assembler: &mut Assembler, unit: &[u8], made: &Made) -> Compared<()> {
+    let is_same = assembler.lower(unit).is_ok_and(|lowered| {
+        lowered.bytes() == made.listing
+            && lowered.labels() == made.marks
+            && lowered.size() as usize == made.totals.size
+    });
+    holds("Assembler::lower", is_same, "it gives the same")?;
+    let is_same = match (assembler.assemble(unit), &made.resolved) {
+        (Ok(code), Ok(expected)) => code.bytes() == expected,
+        (Err(found), Err(expected)) => found == refusal(*expected),
+        _ => false,
+    };
+    holds("Assembler::assemble", is_same, "it gives the same")
+}
