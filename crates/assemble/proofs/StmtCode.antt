@@ -16,14 +16,15 @@ use Rattle.definitions.specs.Read.{parseExpr, parseStmt, filling, arm, blockIf,
 use Rattle.definitions.specs.Code.{Code, done, emit, emits, mark, act, label, _then_}
 use Rattle.definitions.specs.Lower.{BlockSpan, defaultInstrs, lowerArray, lowerElements, emitSwitch, inSwitch, instr, jump, jumpTo, inLoop, lowerExpr, lowerStmt, lowerBlock, lowerBranches, lowerDefault, lowerReturn, lowerReturnNothing}
 use Rattle.ir.specs.Places.{endOf, RunAt, DefaultAt, none, some, ReturnAt, nothing, value}
-use Rattle.ir.specs.declared.Class.the-variants.{Statement}
+use Rattle.ir.specs.declared.Class.the-variants.{Statement, Expression}
 use Rattle.ir.proofs.Inversion.{stmt-at, run-ok, give-ok}
 use Rattle.ir.proofs.StmtPlaces.{eval-at, block-at, while-at, break-at, continue-at, branches-at, switch-at, init-array-at, init-default-at, returned-at, arm-at, no-other}
 use Rattle.steps.specs.Walked.{Accepted, Did, Ended, DefaultHere, Cased, insideCode, midCode, defaultAnswer, exprsFrom, listOf, defaultFrom, armsFrom, casesFrom, codeOf, exprCode, stmtCode, fillCode, armCode}
 use Rattle.laws.proofs.Arms.{Nones}
 use Rattle.assemble.proofs.ExprCode.{Here, here, child, run-at}
 use Rattle.laws.proofs.Trees.{length-exprs}
-use Rattle.steps.proofs.StepLaws.{recode}
+use Rattle.steps.proofs.StepLaws.{recode, SameRun, same-on, same-code}
+use Rattle.steps.proofs.RunLaws.{single-run, single-code}
 use Rattle.steps.specs.declared.Walk.{Walk}
 
 pub block-code : (d : ℕ) (s : List ℕ) (end at : ℕ) (span : BlockSpan) (xs : List Stmt) (n : ℕ) → filling (parseStmt d s) end at ≡ ok xs n → fillCode Statement d s end at span ≡ lowerBlock (blockOf xs) span
@@ -90,11 +91,13 @@ module _ (depth : ℕ) (s : List ℕ) (end at : ℕ) (span : BlockSpan) (acc : A
     reads : parseStmt depth s end at ≡ ok (acc .0) stop
     reads = let k = stmt-at depth s end at (acc .2) in acc .2 ∙ ap (ok (acc .0)) (k .ends ∙ sym e)
 
-    pub eval-here : getD s (at + 4) 0 ≡ 1 → Here (depth - 1) s stop (at + 5) stop × (stmtCode depth s end at span ≡ exprCode (depth - 1) s stop (at + 5))
+    pub eval-here : getD s (at + 4) 0 ≡ 1 → (at + 5 ≤ stop) × Accepted (exprsFrom (depth - 1) s stop (at + 5)) × SameRun (fillCode Expression (depth - 1) s stop (at + 5) span) (stmtCode depth s end at span)
     unfolding lowerStmt
     eval-here kind =
         let k = eval-at depth s end at (acc .0) stop reads kind in
-        (here (k .one), whole ∙ ap (λ t. lowerStmt t span) (k .tree) ∙ child (k .one))
+        let one : Accepted (parseExpr (depth - 1) s stop (at + 5)) = (k .value, stop, k .one .reads) in
+        let code = whole ∙ ap (λ t. lowerStmt t span) (k .tree) ∙ child (k .one) in
+        (omega (arith, k .one), single-run _ _ _ _ _ (k .one .ends) one, same-on (single-code _ _ _ _ _ (k .one .ends) one span) (same-code (sym code)))
 
     pub nest-here : getD s (at + 4) 0 ≡ 2 → (at + 9 ≤ stop) × Accepted (filling (parseStmt (depth - 1) s) stop (at + 9)) × (stmtCode depth s end at span ≡ fillCode Statement (depth - 1) s stop (at + 9) span)
     unfolding lowerStmt
@@ -237,8 +240,9 @@ arm-here d s end at acc second third e2 e3 =
     })
 
 -- no other kind is read
-pub no-stmt : {X : Type 0} (depth : ℕ) (s : List ℕ) (end at : ℕ) → Accepted (parseStmt depth s end at) → Nones 0 10 (getD s (at + 4) 0) → X
-no-stmt depth s end at acc n = no-other depth s end at (acc .0) (acc .1) (acc .2) n
+pub no-stmt : {X : Type 0} (depth : ℕ) (s : List ℕ) (end at : ℕ) → Accepted (parseStmt depth s end at) → (getD s (at + 4) 0 ≡ 1 → ⊥) × (getD s (at + 4) 0 ≡ 2 → ⊥) → Nones 2 8 (getD s (at + 4) 0) → X
+no-stmt depth s end at acc p n =
+    no-other depth s end at (acc .0) (acc .1) (acc .2) ((((((((((tt, p .0), p .1), n .0 .0 .0 .0 .0 .0 .0 .1), n .0 .0 .0 .0 .0 .0 .1), n .0 .0 .0 .0 .0 .1), n .0 .0 .0 .0 .1), n .0 .0 .0 .1), n .0 .0 .1), n .0 .1), n .1)
 
 -- the default block
 

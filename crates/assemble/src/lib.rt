@@ -14,10 +14,9 @@ mod nodes;
 use instr::listings;
 use instr::numbers::wide;
 use instr::records::Record;
-use ir::Class;
 use ir::ReadUnit;
 use ir::Refusal;
-use nodes::items;
+use nodes::stmts;
 use steps::BlockSpan;
 use steps::Counters;
 use steps::Target;
@@ -46,7 +45,7 @@ fn real_walk(s: &[u8], out: &mut [u8], marks: &mut [u32]) -> Walk
         returns: returns,
     };
     let end = s.len();
-    items(s, 10, end, 200, Class::Statement, span, w, out, marks)
+    stmts(s, 10, end, 200, span, w, out, marks)
 }
 
 // The same with empty buffers: it writes nothing.

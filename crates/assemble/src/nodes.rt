@@ -1,6 +1,6 @@
-// Nodes and what they hold: one cycle of calls. Every child goes through `node`, where the depth that is left falls.
+// Nodes and what they hold: one cycle of calls, in which the depth that is left falls.
 ghost use mathlib.Core.Path.{_≡_};
-ghost use mathlib.Core.Bool.{cond};
+ghost use mathlib.Core.Bool.{true, cond};
 ghost use mathlib.Core.Option.{none};
 ghost use Prim.Native.Nat.{_+_, _≤_, _<_, _^_};
 ghost use lib.ListN.{length, getD};
@@ -10,17 +10,14 @@ ghost use Rattle.definitions.specs.Read.{parseExpr, parseStmt, filling, arm};
 ghost use Rattle.definitions.specs.Code.{Action, mark, act, _then_};
 ghost use Rattle.definitions.specs.Lower.{jump, jumps, lowerArg, lowerExpr, lowerBlock, lowerBranches, lowerDefault, lowerLast, lowerCases, lowerMatchers, lowerBodies, lowerElements, midDefault};
 ghost use Rattle.definitions.specs.Bytes.{number};
-ghost use Rattle.ir.specs.Class.{nodeOf};
+ghost use Rattle.ir.specs.declared.Class.the-variants.{Statement, Expression};
 ghost use Rattle.ir.specs.Places.{endOf};
-ghost use Rattle.steps.specs.Walked.{Accepted, DefaultHere, Cased, codeOf, listOf, exprCode, stmtCode, nodeCode, fillCode, exprsFrom, armsFrom, casesFrom, armCode, defaultFrom, defaultOf, midCode, insideCode, marksFrom, Called, argsCode, callCode, spanOf, ending, Did};
+ghost use Rattle.steps.specs.Walked.{Accepted, DefaultHere, Cased, codeOf, listOf, exprCode, stmtCode, fillCode, exprsFrom, armsFrom, casesFrom, armCode, defaultFrom, defaultOf, midCode, insideCode, marksFrom, Called, argsCode, callCode, spanOf, ending, makesLabels, Did};
 use super::arms::count_arms;
 use instr::numbers::u16_at;
 use instr::numbers::u32_at;
 use instr::numbers::wide;
 use instr::tag;
-use ir::Class;
-use ir::Class::Expression;
-use ir::Class::Statement;
 use ir::expr;
 use ir::stmt;
 use steps::BlockSpan;
@@ -31,6 +28,7 @@ use steps::calls::emit_invoke;
 use steps::calls::nops;
 use steps::calls::weak_to_ref;
 use steps::heads::head;
+use steps::heads::makes_labels;
 use steps::heads::parts_at;
 use steps::labels::labels_of;
 use steps::labels::mark_label;
@@ -57,29 +55,26 @@ use steps::switches::is_same;
 use steps::switches::mark_if;
 use steps::switches::open_group;
 
-// A node that was read, in a holder that ends at `end`.
+// An expression that was read, in a holder that ends at `end`.
 fn node(
     s: &[u8],
     at: usize,
     end: usize,
     depth: usize,
-    class: Class,
     span: BlockSpan,
     w: Walk,
     out: &mut [u8],
     marks: &mut [u32],
 ) -> Walk
-    requires { ⌜ Accepted (nodeOf class depth (now s) end at) ⌝ }
+    requires { ⌜ Accepted (parseExpr depth (now s) end at) ⌝ }
     requires { ⌜ end ≤ length (now s) ⌝ }
-    ensures { λ r. ⌜ Did (nodeCode class depth (now (s .entry)) end at (spanOf span)) w (now (out .entry)) (now (marks .entry)) r (now (out .exit)) (now (marks .exit)) ⌝ }
+    ensures { λ r. ⌜ Did (exprCode depth (now (s .entry)) end at) w (now (out .entry)) (now (marks .entry)) r (now (out .exit)) (now (marks .exit)) ⌝ }
 {
-    match class {
-        Statement => assemble(s, at, end, depth, span, w, out, marks),
-        Expression => assemble_expr(s, at, end, depth, span, w, out, marks),
-    }
+    let stop = end_of(s, at);
+    exprs(s, at, stop, depth, span, w, out, marks)
 }
 
-// A statement.
+// A statement that is neither an expression nor a block.
 fn assemble(
     s: &[u8],
     at: usize,
@@ -92,14 +87,11 @@ fn assemble(
 ) -> Walk
     requires { ⌜ Accepted (parseStmt depth (now s) end at) ⌝ }
     requires { ⌜ end ≤ length (now s) ⌝ }
+    requires { ⌜ (getD (now s) (at + 4) 0 ≡ 1 → ⊥) × (getD (now s) (at + 4) 0 ≡ 2 → ⊥) ⌝ }
     ensures { λ r. ⌜ Did (stmtCode depth (now (s .entry)) end at (spanOf span)) w (now (out .entry)) (now (marks .entry)) r (now (out .exit)) (now (marks .exit)) ⌝ }
 {
     let kind = s[at + 4];
-    let stop = end_of(s, at);
-    let below = depth - 1;
     match kind {
-        stmt::EXPR => node(s, at + 5, stop, below, Expression, span, w, out, marks),
-        stmt::BLOCK => items(s, at + 9, stop, below, Statement, span, w, out, marks),
         stmt::WHILE => repeat(s, at, end, depth, span, w, out, marks),
         stmt::BRANCHES => branches(s, at, end, depth, span, w, out, marks),
         stmt::SWITCH => switch(s, at, end, depth, span, w, out, marks),
@@ -118,7 +110,7 @@ fn assemble(
     }
 }
 
-// An expression.
+// An expression whose rule makes labels.
 fn assemble_expr(
     s: &[u8],
     at: usize,
@@ -131,6 +123,7 @@ fn assemble_expr(
 ) -> Walk
     requires { ⌜ Accepted (parseExpr depth (now s) end at) ⌝ }
     requires { ⌜ end ≤ length (now s) ⌝ }
+    requires { ⌜ makesLabels (getD (now s) (at + 4) 0) ≡ true ⌝ }
     ensures { λ r. ⌜ Did (exprCode depth (now (s .entry)) end at) w (now (out .entry)) (now (marks .entry)) r (now (out .exit)) (now (marks .exit)) ⌝ }
 {
     let kind = s[at + 4];
@@ -148,11 +141,7 @@ fn assemble_expr(
         }
         expr::INSTANCE_CALL => instance(s, at, end, depth, span, w, out, marks),
         expr::CLOSURE_CALL => closure(s, at, end, depth, span, w, out, marks),
-        _ => {
-            let first = parts_at(s, at, stop);
-            let w1 = head(s, at, end, depth, w, out);
-            items(s, first, stop, below, Expression, span, w1, out, marks)
-        }
+        _ => w,
     }
 }
 
@@ -179,13 +168,13 @@ fn field(
     let first = at + 10;
     if form == 0 {
         let w1 = plain(w, tag::STRUCT_FIELD, 0, name, out);
-        return node(s, first, stop, below, Expression, span, w1, out, marks);
+        return node(s, first, stop, below, span, w1, out, marks);
     }
     let exit = labels_of(w);
     let w1 = new_label(w, at, marks);
     let w2 = jump(w1, tag::CONTEXT, exit, out);
     let w3 = weak_to_ref(w2, form - 1, out);
-    let w4 = node(s, first, stop, below, Expression, span, w3, out, marks);
+    let w4 = node(s, first, stop, below, span, w3, out, marks);
     let w5 = plain(w4, tag::OBJECT_FIELD, 0, name, out);
     mark_label(w5, exit, marks)
 }
@@ -216,10 +205,10 @@ fn ternary(
     let exit = labels_of(w1);
     let w2 = new_label(w1, at, marks);
     let w3 = jumps(w2, tag::CONDITIONAL, other, exit, out);
-    let w4 = node(s, first, stop, below, Expression, span, w3, out, marks);
-    let w5 = node(s, second, stop, below, Expression, span, w4, out, marks);
+    let w4 = node(s, first, stop, below, span, w3, out, marks);
+    let w5 = node(s, second, stop, below, span, w4, out, marks);
     let w6 = mark_label(w5, other, marks);
-    let w7 = node(s, third, stop, below, Expression, span, w6, out, marks);
+    let w7 = node(s, third, stop, below, span, w6, out, marks);
     mark_label(w7, exit, marks)
 }
 
@@ -248,7 +237,7 @@ fn instance(
     let w1 = new_label(w, at, marks);
     let w2 = jump(w1, tag::CONTEXT, exit, out);
     let w3 = weak_to_ref(w2, weak, out);
-    let w4 = node(s, first, stop, below, Expression, span, w3, out, marks);
+    let w4 = node(s, first, stop, below, span, w3, out, marks);
     let w5 = emit_call(s, second, stop, below, span, at, w4, out, marks);
     mark_label(w5, exit, marks)
 }
@@ -278,13 +267,13 @@ fn closure(
     let context = labels_of(w);
     let w1 = new_label(w, at, marks);
     let w2 = jump(w1, tag::CONTEXT, context, out);
-    let w3 = node(s, first, stop, below, Expression, span, w2, out, marks);
+    let w3 = node(s, first, stop, below, span, w2, out, marks);
     let w4 = mark_label(w3, context, marks);
     let exit = labels_of(w4);
     let w5 = new_label(w4, at, marks);
     let w6 = invoke(w5, tag::INVOKE_VIRTUAL, exit, line, 0, name, out);
     let args = second + 10;
-    let w7 = items(s, args, stop, below, Expression, span, w6, out, marks);
+    let w7 = exprs(s, args, stop, below, span, w6, out, marks);
     let w8 = plain(w7, tag::PARAM_END, 0, 0, out);
     mark_label(w8, exit, marks)
 }
@@ -366,36 +355,75 @@ fn arg(
     ensures { λ r. ⌜ Did (lowerArg site short (exprCode depth (now (s .entry)) end at)) w (now (out .entry)) (now (marks .entry)) r (now (out .exit)) (now (marks .exit)) ⌝ }
 {
     if short == 0 {
-        return node(s, at, end, depth, Expression, span, w, out, marks);
+        return node(s, at, end, depth, span, w, out, marks);
     }
     let skip = labels_of(w);
     let w1 = new_label(w, site, marks);
     let w2 = jump(w1, tag::SKIP, skip, out);
-    let w3 = node(s, at, end, depth, Expression, span, w2, out, marks);
+    let w3 = node(s, at, end, depth, span, w2, out, marks);
     mark_label(w3, skip, marks)
 }
 
-// Nodes that fill the bytes from `at` to `end`: a block, or expressions.
-pub fn items(
+// Expressions one after the other up to `end`. One that makes no label is its record and then its parts, which stand where the run
+// goes on: no call goes down to them.
+fn exprs(
     s: &[u8],
     at: usize,
     end: usize,
     depth: usize,
-    class: Class,
     span: BlockSpan,
     w: Walk,
     out: &mut [u8],
     marks: &mut [u32],
 ) -> Walk
-    requires { ⌜ Accepted (filling (nodeOf class depth (now s)) end at) ⌝ }
+    requires { ⌜ Accepted (exprsFrom depth (now s) end at) ⌝ }
     requires { ⌜ (at ≤ end) × (end ≤ length (now s)) ⌝ }
-    ensures { λ r. ⌜ Did (fillCode class depth (now (s .entry)) end at (spanOf span)) w (now (out .entry)) (now (marks .entry)) r (now (out .exit)) (now (marks .exit)) ⌝ }
+    ensures { λ r. ⌜ Did (fillCode Expression depth (now (s .entry)) end at (spanOf span)) w (now (out .entry)) (now (marks .entry)) r (now (out .exit)) (now (marks .exit)) ⌝ }
 {
     let mut item = at;
     let mut v = w;
     while item < end {
-        v = node(s, item, end, depth, class, span, v, out, marks);
-        item = end_of(s, item);
+        let stop = end_of(s, item);
+        if makes_labels(s[item + 4]) {
+            v = assemble_expr(s, item, end, depth, span, v, out, marks);
+            item = stop;
+        } else {
+            v = head(s, item, end, depth, v, out);
+            item = parts_at(s, item, stop);
+        }
+    }
+    v
+}
+
+// Statements one after the other up to `end`. A block is its statements, which stand where the run goes on.
+pub fn stmts(
+    s: &[u8],
+    at: usize,
+    end: usize,
+    depth: usize,
+    span: BlockSpan,
+    w: Walk,
+    out: &mut [u8],
+    marks: &mut [u32],
+) -> Walk
+    requires { ⌜ Accepted (filling (parseStmt depth (now s)) end at) ⌝ }
+    requires { ⌜ (at ≤ end) × (end ≤ length (now s)) ⌝ }
+    ensures { λ r. ⌜ Did (fillCode Statement depth (now (s .entry)) end at (spanOf span)) w (now (out .entry)) (now (marks .entry)) r (now (out .exit)) (now (marks .exit)) ⌝ }
+{
+    let mut here = at;
+    let mut v = w;
+    while here < end {
+        let stop = end_of(s, here);
+        let kind = s[here + 4];
+        if kind == stmt::BLOCK {
+            here += 9;
+        } else if kind == stmt::EXPR {
+            v = exprs(s, here + 5, stop, depth - 1, span, v, out, marks);
+            here = stop;
+        } else {
+            v = assemble(s, here, end, depth, span, v, out, marks);
+            here = stop;
+        }
     }
     v
 }
@@ -426,9 +454,9 @@ fn repeat(
     let w2 = new_label(w1, at, marks);
     let w3 = mark_label(w2, start, marks);
     let w4 = jump(w3, tag::JUMP_IF_FALSE, finish, out);
-    let w5 = node(s, first, stop, below, Expression, span, w4, out, marks);
+    let w5 = node(s, first, stop, below, span, w4, out, marks);
     let inner = in_loop(start, finish, span);
-    let w6 = items(s, second + 4, stop, below, Statement, inner, w5, out, marks);
+    let w6 = stmts(s, second + 4, stop, below, inner, w5, out, marks);
     let w7 = jump(w6, tag::JUMP, start, out);
     mark_label(w7, finish, marks)
 }
@@ -513,8 +541,8 @@ fn arm(
     let second = end_of(s, at);
     let third = end_of(s, second);
     let w1 = jump(w, tag::JUMP_IF_FALSE, next, out);
-    let w2 = node(s, at, end, depth, Expression, span, w1, out, marks);
-    let w3 = items(s, second + 4, third, depth, Statement, span, w2, out, marks);
+    let w2 = node(s, at, end, depth, span, w1, out, marks);
+    let w3 = stmts(s, second + 4, third, depth, span, w2, out, marks);
     let w4 = jump(w3, tag::JUMP, exit, out);
     mark_label(w4, next, marks)
 }
@@ -538,7 +566,7 @@ fn default(
     if there == 0 {
         return w;
     }
-    items(s, at + 4, end, depth, Statement, span, w, out, marks)
+    stmts(s, at + 4, end, depth, span, w, out, marks)
 }
 
 // Switch.
@@ -567,7 +595,7 @@ fn switch(
     let label = labels_of(w1);
     let w2 = new_label(w1, at, marks);
     let w3 = emit_switch(w2, typ, label, out);
-    let w4 = node(s, first, stop, below, Expression, span, w3, out, marks);
+    let w4 = node(s, first, stop, below, span, w3, out, marks);
     let inner = in_switch(finish, span);
     let w5 = inside(s, second, stop, below, inner, at, label, w4, out, marks);
     mark_label(w5, finish, marks)
@@ -602,7 +630,7 @@ fn inside(
         return w1;
     }
     let w2 = plain(w1, tag::SWITCH_DEFAULT, 0, 0, out);
-    items(s, list + 4, end, depth, Statement, span, w2, out, marks)
+    stmts(s, list + 4, end, depth, span, w2, out, marks)
 }
 
 // Cases in groups: each block after its matcher.
@@ -663,10 +691,10 @@ fn case(
     let second = end_of(s, at);
     let third = end_of(s, second);
     let w1 = jumps(w, tag::SWITCH_LABEL, next, body, out);
-    let w2 = node(s, at, end, depth, Expression, span, w1, out, marks);
+    let w2 = node(s, at, end, depth, span, w1, out, marks);
     if ends {
         let w3 = mark_label(w2, body, marks);
-        return items(s, second + 4, third, depth, Statement, span, w3, out, marks);
+        return stmts(s, second + 4, third, depth, span, w3, out, marks);
     }
     w2
 }
@@ -741,7 +769,7 @@ fn matchers(
         next = labels_of(v);
         v = new_label(v, site, marks);
         v = jumps(v, tag::SWITCH_LABEL, next, body, out);
-        v = node(s, i, end, depth, Expression, span, v, out, marks);
+        v = node(s, i, end, depth, span, v, out, marks);
         body += 1;
         i = end_of(s, second);
     }
@@ -778,7 +806,7 @@ fn bodies(
         v = mark_if(v, here, label + n, marks);
         v = default(s, end, stop, depth, span, here, v, out, marks);
         v = mark_label(v, label + k, marks);
-        v = items(s, second + 4, third, depth, Statement, span, v, out, marks);
+        v = stmts(s, second + 4, third, depth, span, v, out, marks);
         k += 1;
         i = third;
     }
@@ -838,7 +866,7 @@ fn elements(
     let mut k = 0;
     while i < end {
         v = element(v, local, typ, k, out);
-        v = node(s, i, end, depth, Expression, span, v, out, marks);
+        v = node(s, i, end, depth, span, v, out, marks);
         i = end_of(s, i);
         k += 1;
     }
@@ -867,9 +895,9 @@ fn ret(
         return returned(w, out);
     }
     if span.returns == 0 {
-        let w1 = node(s, at + 6, stop, below, Expression, span, w, out, marks);
+        let w1 = node(s, at + 6, stop, below, span, w, out, marks);
         return returned(w1, out);
     }
     let w2 = plain(w, tag::RETURN, 0, 0, out);
-    node(s, at + 6, stop, below, Expression, span, w2, out, marks)
+    node(s, at + 6, stop, below, span, w2, out, marks)
 }

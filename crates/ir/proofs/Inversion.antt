@@ -193,10 +193,10 @@ child-ok d s end f at e = let h = bind-ok (parseExpr d s end at) f e in (h .0, h
 
 -- 4. Items
 
-abbrev itemsOf : {A : Type 0} → Parser A → (fuel stop : ℕ) → A → Parser (List A)
+abbrev pub itemsOf : {A : Type 0} → Parser A → (fuel stop : ℕ) → A → Parser (List A)
 itemsOf p fuel stop x next = bind (items p fuel stop next) (λ xs. ok (x ∷ xs))
 
-items-on : {A : Type 0} (p : Parser A) (fuel stop at : ℕ) → at < stop → items p (suc fuel) stop at ≡ bind (p at) (itemsOf p fuel stop)
+pub items-on : {A : Type 0} (p : Parser A) (fuel stop at : ℕ) → at < stop → items p (suc fuel) stop at ≡ bind (p at) (itemsOf p fuel stop)
 unfolding items
 items-on p fuel stop at h = simp (lt-ltb at stop h, items)
 

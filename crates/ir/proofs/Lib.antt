@@ -8,4 +8,5 @@ pub mod Inversion
 pub mod ExprPlaces
 pub mod StmtPlaces
 pub mod UnitPlaces
+pub mod Wider
 pub mod ArgLaws

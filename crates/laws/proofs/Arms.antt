@@ -1,7 +1,7 @@
 -- A match on a number: what its last arm knows, and a choice by arms. Assumes nothing.
 use Prim.Native.Nat.{ℕ, zero, suc, _+_, _≤_, _<_}
-use mathlib.Core.Path.{_≡_, refl, _∙_, ap}
-use mathlib.Core.Bool.{Bool, true, false, cond}
+use mathlib.Core.Path.{_≡_, refl, sym, _∙_, ap}
+use mathlib.Core.Bool.{Bool, true, false, cond, true≢false}
 use mathlib.Core.List.{List, [], _∷_}
 use native.Mathlib.Omega.{arith}
 use lib.Dec.{eqb}
@@ -32,6 +32,16 @@ pub others : (f : ℕ → Bool) (n t : ℕ) → t < n → None t (those f n) →
 unfolding those
 others f zero t h r = absurd (omega arith)
 others f (suc n) t h r = below f n t (f n) refl h r (λ l q. others f n t l q)
+
+-- and the other way
+pub none-pass : (f : ℕ → Bool) (n t : ℕ) → f t ≡ false → None t (those f n)
+unfolding those
+none-pass f zero t h = tt
+none-pass f (suc n) t h = go (f n) refl (none-pass f n t h)
+  where
+    go : (b : Bool) → f n ≡ b → None t (those f n) → None t (cond b (n ∷ those f n) (those f n))
+    go true e r = (r, λ q. true≢false (sym e ∙ ap f (sym q) ∙ h))
+    go false e r = r
 
 -- none of the first n
 pub past-first : (n k : ℕ) → None k (those (λ _. true) n) → n ≤ k

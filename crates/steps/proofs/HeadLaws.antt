@@ -1,12 +1,12 @@
 -- Expressions that are one record and then their parts in order. Assumes nothing.
 use Prim.Native.Nat.{ℕ, zero, suc, _+_, _-_, _≤_, _<_}
 use mathlib.Core.Path.{_≡_, refl, sym, ap, _∙_}
-use mathlib.Core.Bool.{Bool, _&&_}
+use mathlib.Core.Bool.{Bool, true, false, cond, _&&_}
 use mathlib.Core.List.{List, [], _∷_}
 use native.Mathlib.Omega.{arith}
 use lib.Dec.{eqb, ltb}
 use lib.ListN.{length, getD, List·getD-eq-default}
-use borrow.Author.Tests.{ltb-false, ne-eqb}
+use borrow.Author.Tests.{ltb-true, ltb-false, eqb-false, ne-eqb, lt-ltb}
 use Rattle.definitions.specs.Answer.{ok}
 use Rattle.definitions.specs.Bytes.{number}
 use Rattle.definitions.specs.Tag.{Nop, New, Assign, Construct, DynamicCast, intrinsicOf}
@@ -15,14 +15,14 @@ use Rattle.definitions.specs.Instr.{plain}
 use Rattle.definitions.specs.Read.{parseExpr}
 use Rattle.definitions.specs.Code.{Code, done, _then_, act, emit}
 use Rattle.definitions.specs.Lower.{BlockSpan, instr, require, nullTag, elementTag, localTag, lowerExpr, lowerExprs}
-use Rattle.laws.proofs.Arms.{None, those, others, past, one-of}
+use Rattle.laws.proofs.Arms.{None, those, others, none-pass, past, one-of}
 use Rattle.laws.proofs.Trees.{length-exprs}
 use Rattle.ir.specs.Places.{endOf, ExprAt, RunAt}
 use Rattle.ir.specs.declared.Class.the-variants.{Expression}
 use Rattle.ir.proofs.Inversion.{expr-at, expr-moves, fill-nil, fill-cons}
 use Rattle.ir.proofs.ExprPlaces.{nop-at, const-at, null-at, new-instance-at, construct-at, assign-at, index-at, dyn-cast-at, local-at, intrinsic-at, no-other}
 use Rattle.steps.specs.Running.{run}
-use Rattle.steps.specs.Walked.{Accepted, codeOf, listOf, exprCode, fillCode, exprsFrom, constCode, constructCode, intrinsicCode, heads, headOf, headCode, partsFrom, partsAt, Emitted, Left}
+use Rattle.steps.specs.Walked.{Accepted, codeOf, listOf, exprCode, fillCode, exprsFrom, constCode, constructCode, intrinsicCode, heads, headOf, headCode, makesLabels, partsFrom, partsAt, Emitted, Left}
 use Rattle.steps.specs.declared.Walk.{Walk}
 use Rattle.steps.proofs.StepLaws.{both, SameRun, same-assoc, same-right, same-on, same-back, same-code, same-end}
 use Rattle.steps.proofs.RunLaws.{listed}
@@ -136,6 +136,27 @@ intrinsic-did s at code short types fits tag small i {o = o} e f g h p q j a b =
     rw (← e, ← f, ← g, ← j, ← p, ← q, ← h) (record { did = λ m. both (a .did o m) (b .did m) })
 
 -- 2. Where the parts begin
+
+pub no-labels : (k : ℕ) → None k (16 ∷ 15 ∷ 14 ∷ 13 ∷ 9 ∷ 7 ∷ []) → makesLabels k ≡ false
+unfolding those makesLabels
+no-labels k r = go (ltb k 17) refl
+  where
+    go : (b : Bool) → ltb k 17 ≡ b → makesLabels k ≡ false
+    go true e = others makesLabels 17 k (ltb-true k 17 e) r
+    go false e = let h = ltb-false k 17 e in rw (ne-eqb k 7 (omega arith), ne-eqb k 9 (omega arith), lt-ltb 12 k (omega arith), e)
+
+-- the kinds that are one record and then their parts
+pub flat-kind : (k : ℕ) → makesLabels k ≡ false → None k (16 ∷ 15 ∷ 14 ∷ 13 ∷ 9 ∷ 7 ∷ [])
+unfolding those makesLabels
+flat-kind k h = none-pass makesLabels 17 k h
+
+pub parts-after : (s : List ℕ) (stop at first : ℕ) → first ≡ partsAt s stop at → at < stop → at < first
+unfolding partsAt
+parts-after s stop at first f h = rw f (go (eqb (partsFrom (getD s (at + 4) 0)) 0) refl)
+  where
+    go : (b : Bool) → eqb (partsFrom (getD s (at + 4) 0)) 0 ≡ b → at < cond b stop (at + partsFrom (getD s (at + 4) 0))
+    go true e = h
+    go false e = let d = eqb-false (partsFrom (getD s (at + 4) 0)) 0 e in omega arith
 
 pub from-other : (k : ℕ) → k < 256 → None k (those (λ t. ltb 0 (partsFrom t)) 256) → 0 ≡ partsFrom k
 from-other k h r = omega (arith, ltb-false 0 (partsFrom k) (others (λ t. ltb 0 (partsFrom t)) 256 k h r))

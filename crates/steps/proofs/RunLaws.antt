@@ -1,7 +1,7 @@
 -- A run that a loop goes through, item by item. Assumes nothing.
 use Prim.Native.Nat.{ℕ, zero, suc, _+_, _-_, _≤_, _<_}
 use mathlib.Core.Path.{_≡_, refl, sym, ap, _∙_}
-use mathlib.Core.List.{List, [], _∷_}
+use mathlib.Core.List.{List, [], _∷_, _++_}
 use mathlib.Core.Option.{none}
 use native.Mathlib.Omega.{arith}
 use lib.ListN.{length, getD}
@@ -14,14 +14,13 @@ use Rattle.ir.specs.Class.{TreeOf, nodeOf}
 use Rattle.ir.specs.Places.{endOf}
 use Rattle.ir.specs.declared.Class.{Class}
 use Rattle.ir.specs.declared.Class.the-variants.{Statement, Expression}
-use denote.Enum.Declared.{tagOf}
-use Rattle.ir.proofs.Class.{the-type as class-type}
-use Rattle.ir.proofs.Inversion.{fill-some, fill-none, expr-at, stmt-at, expr-moves, stmt-moves}
+use Rattle.ir.proofs.Wider.{expr-wider, node-wider, fill-on}
+use Rattle.ir.proofs.Inversion.{fill-some, fill-none, fill-nil, fill-cons, expr-at, stmt-at, expr-moves, stmt-moves}
 use Rattle.steps.specs.Running.{run}
-use Rattle.steps.specs.Walked.{Accepted, codeOf, ran, labelsOf, lowerOf, lowerAll, nodeCode, stmtCode, exprCode, exprsFrom, argsCode, listOf, marksFrom, Called, Nops, Did}
+use Rattle.steps.specs.Walked.{Accepted, codeOf, ran, labelsOf, lowerOf, lowerAll, nodeCode, fillCode, exprCode, exprsFrom, argsCode, listOf, marksFrom, Called, Nops, Did}
 use Rattle.steps.specs.declared.Walk.{Walk}
 use Rattle.laws.proofs.Results.{onward-assoc, onward-made, onward-same}
-use Rattle.steps.proofs.StepLaws.{fresh-same, recode, SameRun}
+use Rattle.steps.proofs.StepLaws.{fresh-same, recode, SameRun, same-assoc, same-right, same-left, same-on, same-back, same-code, same-done, same-end}
 
 -- 1. What is left
 
@@ -149,25 +148,55 @@ unfolding lowerExpr lowerStmt exprsOf blockOf
 all-nil Statement span = refl
 all-nil Expression span = refl
 
--- a node's class
+-- 4. Nodes that are a record, or none, and then their parts: the parts stand where the run goes on
 
-pub as-stmt : (class : Class) (d : ℕ) (s : List ℕ) (end at : ℕ) → tagOf class-type class ≡ 0 → Accepted (nodeOf class d s end at) → Accepted (parseStmt d s end at)
-as-stmt Statement d s end at h a = a
-as-stmt Expression d s end at h a = let z : _≡_ {A = ℕ} 1 0 = h in absurd (omega arith)
+all-append : (class : Class) (span : BlockSpan) (xs ys : List (TreeOf class)) → SameRun (lowerAll class span xs then lowerAll class span ys) (lowerAll class span (xs ++ ys))
+all-append class span [] ys = same-on (same-code (ap (λ p. p then lowerAll class span ys) (all-nil class span))) (same-back (same-done _))
+all-append class span (x ∷ xs) ys =
+    same-on (same-code (ap (λ p. p then lowerAll class span ys) (all-cons class span x xs)))
+    (same-on (same-back (same-assoc _ _ _)) (same-on (same-right _ (all-append class span xs ys)) (same-code (sym (all-cons class span x (xs ++ ys))))))
 
-pub as-expr : (class : Class) (d : ℕ) (s : List ℕ) (end at : ℕ) → tagOf class-type class ≡ 1 → Accepted (nodeOf class d s end at) → Accepted (parseExpr d s end at)
-as-expr Statement d s end at h a = let z : _≡_ {A = ℕ} 0 1 = h in absurd (omega arith)
-as-expr Expression d s end at h a = a
+module _ (class : Class) (d : ℕ) (s : List ℕ) (span : BlockSpan) (code : Code) (end : ℕ) (w : Walk) (o m : List ℕ) (i : ℕ) (v : Walk) (o₁ m₁ : List ℕ) (v₂ : Walk) (o₂ m₂ : List ℕ) where
+  -- the node at i, of which the walk did all that comes before its parts, which begin at `first`
+  pub rest-flat : (l : Rest (nodeOf class d s) (lowerAll class span) code end w o m i v o₁ m₁) → i < end → (below stop first : ℕ) (head : Code) → below ≤ d →
+      stop ≡ endOf s i → first ≤ stop → Accepted (filling (nodeOf class below s) stop first) → SameRun (head then fillCode class below s stop first span) (nodeCode class d s end i span) → Did head v o₁ m₁ v₂ o₂ m₂ → Rest (nodeOf class d s) (lowerAll class span) code end w o m first v₂ o₂ m₂
+  unfolding codeOf
+  rest-flat l h below stop first head b e f parts same did =
+      let k = turn (nodeOf class d s) end i (moves class d s end) h (l .reads) in
+      let z = placed class d s end i (k .reads) in
+      let others : filling (nodeOf class d s) end stop ≡ ok (k .others) (l .last) = rw (z .1 ∙ sym e) at (k .after) in
+      let p : fillCode class below s stop first span ≡ lowerAll class span (parts .0) = ap {B = Code} (codeOf (lowerAll class span)) (parts .2) in
+      let q : SameRun (lowerAll class span (k .item ∷ k .others)) (head then lowerAll class span (parts .0 ++ k .others)) =
+      same-on (same-code (all-cons class span (k .item) (k .others) ∙ ap (λ c. c then lowerAll class span (k .others)) (sym (node-code class d s end i span (k .reads)))))
+      (same-on (same-left (same-back same) _) (same-on (same-back (same-assoc _ _ _)) (same-right head (same-on (same-code (ap (λ c. c then lowerAll class span (k .others)) p)) (all-append class span (parts .0) (k .others)))))) in
+      record {
+        list = parts .0 ++ k .others;
+        last = l .last;
+        reads = fill-on (nodeOf class below s) (nodeOf class d s) stop end (omega (arith, e, z .0)) (node-wider class below d s stop end b (omega (arith, e, z .0))) (λ at x n r. let y = placed class below s stop at r in (moves class below s stop at x n r, omega (arith, y .0, y .1))) (moves class d s end) (parts .0) (k .others) first (parts .1) (l .last) f (parts .2) others;
+        to = omega (arith, e, f, z .0);
+        goes = goes-on (l .goes) (goes-on (renamed v o₁ m₁ (ap (lowerAll class span) (k .whole))) (goes-on (goes-same v o₁ m₁ q) (one-step _ did)));
+      }
 
-pub was-stmt : (class : Class) (d : ℕ) (s : List ℕ) (end at : ℕ) (span : BlockSpan) {w r : Walk} {o m o′ m′ : List ℕ} → tagOf class-type class ≡ 0 → Did (stmtCode d s end at span) w o m r o′ m′ → Did (nodeCode class d s end at span) w o m r o′ m′
-was-stmt Statement d s end at span h a = a
-was-stmt Expression d s end at span h a = let z : _≡_ {A = ℕ} 1 0 = h in absurd (omega arith)
+-- 5. One expression as a run of its own
 
-pub was-expr : (class : Class) (d : ℕ) (s : List ℕ) (end at : ℕ) (span : BlockSpan) {w r : Walk} {o m o′ m′ : List ℕ} → tagOf class-type class ≡ 1 → Did (exprCode d s end at) w o m r o′ m′ → Did (nodeCode class d s end at span) w o m r o′ m′
-was-expr Statement d s end at span h a = let z : _≡_ {A = ℕ} 0 1 = h in absurd (omega arith)
-was-expr Expression d s end at span h a = a
+module _ (d : ℕ) (s : List ℕ) (end at stop : ℕ) (e : stop ≡ endOf s at) (acc : Accepted (parseExpr d s end at)) where
+  single : exprsFrom d s stop at ≡ ok (acc .0 ∷ []) stop
+  single =
+      let z = expr-placed d s end at (acc .2) in
+      let r : parseExpr d s stop at ≡ ok (acc .0) (acc .1) = expr-wider d d s end stop at (omega arith) (λ _. omega (arith, e)) (acc .0) (acc .1) (acc .2) in
+      fill-cons (parseExpr d s) stop (expr-moves d s stop) at (omega (arith, z .0, e)) r (fill-nil (parseExpr d s) stop (expr-moves d s stop) (acc .1) (omega (arith, z .1, e)))
 
--- 4. Arguments
+  pub single-run : Accepted (exprsFrom d s stop at)
+  single-run = (acc .0 ∷ [], stop, single)
+
+  pub single-code : (span : BlockSpan) → SameRun (fillCode Expression d s stop at span) (exprCode d s end at)
+  unfolding codeOf
+  single-code span =
+      let p : fillCode Expression d s stop at span ≡ lowerAll Expression span (acc .0 ∷ []) = ap {B = Code} (codeOf (lowerAll Expression span)) single in
+      let q : exprCode d s end at ≡ lowerExpr (acc .0) = ap {B = Code} (codeOf lowerExpr) (acc .2) in
+      same-on (same-code (p ∙ all-cons Expression span (acc .0) [])) (same-on (same-right (lowerExpr (acc .0)) (same-code (all-nil Expression span))) (same-on (same-end _) (same-code (sym q))))
+
+-- 6. Arguments
 
 -- at i, where the mark of the next parameter is at p, and `left` are left
 pub record ArgsRest (d : ℕ) (s : List ℕ) (end site : ℕ) (code : Code) (w : Walk) (o m : List ℕ) (p left i : ℕ) (v : Walk) (o′ m′ : List ℕ) : Type 0 where

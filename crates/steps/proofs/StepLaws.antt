@@ -330,6 +330,10 @@ pub same-right : (p : Code) {q q′ : Code} → SameRun q q′ → SameRun (p th
 unfolding run
 same-right p {q} {q′} h = record { alike = λ c. onward-same (run p c) (run q) (run q′) (λ a _. h .alike a) }
 
+pub same-left : {p p′ : Code} → SameRun p p′ → (q : Code) → SameRun (p then q) (p′ then q)
+unfolding run
+same-left h q = record { alike = λ c. ap (λ x. onward x (run q)) (h .alike c) }
+
 pub same-on : {p q r : Code} → SameRun p q → SameRun q r → SameRun p r
 same-on a b = record { alike = λ c. a .alike c ∙ b .alike c }
 

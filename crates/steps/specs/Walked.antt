@@ -1,6 +1,6 @@
 -- What the contracts of the walk cite: the code of what the bytes hold, and what a walk's value and the two buffers say together.
 use Prim.Native.Nat.{ℕ, zero, suc, _+_, _≤_}
-use mathlib.Core.Bool.{Bool, cond, _&&_}
+use mathlib.Core.Bool.{Bool, cond, _&&_, _||_}
 use mathlib.Core.List.{List, [], _∷_}
 use mathlib.Core.Option.{Option, none, some}
 use mathlib.Core.Path.{_≡_}
@@ -265,6 +265,10 @@ headOf d s stop at kind = getD (heads d s stop at) kind done
 
 abbrev pub headCode : (d : ℕ) (s : List ℕ) (stop at : ℕ) → Code
 headCode d s stop at = headOf d s stop at (getD s (at + 4) 0)
+
+-- the kinds of expression whose rules make labels; every other kind is one record and then its parts in order
+unfoldable pub makesLabels : (kind : ℕ) → Bool
+makesLabels k = eqb k 7 || eqb k 9 || (ltb 12 k && ltb k 17)
 
 -- how far into a node its parts begin; 0 where it has none
 unfoldable pub partsFrom : (kind : ℕ) → ℕ

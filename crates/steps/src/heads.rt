@@ -4,7 +4,7 @@ ghost use Prim.Native.Nat.{_+_, _-_, _≤_, _<_};
 ghost use lib.ListN.{length, getD};
 ghost use Rattle.definitions.specs.Read.{parseExpr};
 ghost use Rattle.ir.specs.Places.{endOf};
-ghost use Rattle.steps.specs.Walked.{Accepted, Emitted, exprsFrom, constructCode, intrinsicCode, headCode, partsFrom, partsAt};
+ghost use Rattle.steps.specs.Walked.{Accepted, Emitted, exprsFrom, constructCode, intrinsicCode, headCode, makesLabels, partsFrom, partsAt};
 use crate::Walk;
 use crate::pieces::constant;
 use crate::places::count;
@@ -88,6 +88,21 @@ pub fn head(s: &[u8], at: usize, end: usize, depth: usize, w: Walk, out: &mut [u
         }
         expr::INTRINSIC_CALL => intrinsic(s, at, w, out),
         _ => w,
+    }
+}
+
+// Whether the rule of this kind makes labels. Every other kind is one record and then its parts in order.
+pub fn makes_labels(kind: u8) -> bool
+    ensures { λ r. ⌜ «r» ≡ makesLabels kind ⌝ }
+{
+    match kind {
+        expr::FIELD => true,
+        expr::CONDITIONAL => true,
+        expr::FREE_CALL => true,
+        expr::STATIC_CALL => true,
+        expr::INSTANCE_CALL => true,
+        expr::CLOSURE_CALL => true,
+        _ => false,
     }
 }
 
