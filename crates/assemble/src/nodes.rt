@@ -1,4 +1,4 @@
-// Nodes and what they hold: one cycle of calls, in which the depth that is left falls.
+// Nodes and what they hold: two cycles of calls, expressions and statements, in each of which the depth that is left falls.
 ghost use mathlib.Core.Path.{_≡_};
 ghost use mathlib.Core.Bool.{true, cond};
 ghost use mathlib.Core.Option.{none};
