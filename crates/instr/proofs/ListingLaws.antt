@@ -92,6 +92,18 @@ whole s e =
     let m : (length s - frontLength) % recordLength ≡ 0 = eqb-true ((length s - frontLength) % recordLength) 0 (q .1) in
     omega (arith, h, m, div-add-mod' (length s - frontLength) recordLength)
 
+-- its version, and the length that it tells
+pub front-says : (s : List ℕ) → listingFront s ≡ true → (getD s 0 0 ≡ 1) × (frontLength + number 4 s 1 ≡ length s)
+unfolding listingFront
+front-says s e =
+    let a = leb frontLength (length s) in
+    let b = eqb (getD s 0 0) 1 in
+    let c = eqb (frontLength + number 4 s 1) (length s) in
+    let d = eqb ((length s - frontLength) % recordLength) 0 in
+    let r = and-eq-true-iff (a && b && c && d) (leb (countOf s) recordLimit) .0 e .0 in
+    let q = and-eq-true-iff (a && b) c .0 (and-eq-true-iff (a && b && c) d .0 r .0) in
+    (eqb-true (getD s 0 0) 1 (and-eq-true-iff a b .0 (q .0) .1), eqb-true (frontLength + number 4 s 1) (length s) (q .1))
+
 pub few : (s : List ℕ) → listingFront s ≡ true → countOf s ≤ recordLimit
 unfolding listingFront
 few s e =

@@ -88,7 +88,7 @@ in-order (f ∷ fs) at end h =
     omega (arith, in-order fs (at + f .1) end (g .1))
 
 -- two pieces of a list, one after the other
-pieces : (s : List ℕ) (at w m to n : ℕ) → at + w ≡ to → w + m ≡ n → take w (drop at s) ++ take m (drop to s) ≡ take n (drop at s)
+pub pieces : (s : List ℕ) (at w m to n : ℕ) → at + w ≡ to → w + m ≡ n → take w (drop at s) ++ take m (drop to s) ≡ take n (drop at s)
 pieces s at w m to n e d = rw (← e, ← d, ← drop-drop w at s) (sym (take-add w m (drop at s)))
 
 fields-back : (fs : List Field) (s : List ℕ) (from at end : ℕ) → laid at end fs ≡ true → Holds s from fs → from + end ≤ length s → ((k : ℕ) → getD s k 0 < 256) →

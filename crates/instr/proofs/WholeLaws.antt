@@ -1,22 +1,23 @@
--- Whole listings: what a caller learns from a check that passed, and that a listing as it is written is read again.
-use Prim.Native.Nat.{ℕ, suc, _+_, _-_, _*_, _/_, _%_, _≤_}
+-- Whole listings: what a caller learns from a check that passed, that a listing as it is written is read again, and one that was read is written again.
+use Prim.Native.Nat.{ℕ, zero, suc, _+_, _-_, _*_, _/_, _%_, _≤_, _<_}
 use mathlib.Core.Path.{_≡_, refl, ap, sym, _∙_}
 use mathlib.Core.Bool.{Bool, true, false, _&&_, and-eq-true-iff}
 use mathlib.Core.List.{List, [], _∷_, _++_, append-assoc, append-nil}
 use native.Mathlib.Omega.{arith}
 use native.Mathlib.Nat.{div-eq-of-eq-mul-right}
 use lib.Dec.{lit<}
-use lib.ListN.{length, length-append}
+use lib.ListN.{length, getD, take, drop, length-append, length-drop, take-append-drop}
+use lib.Seq.{take-all}
 use Rattle.definitions.specs.Answer.{made, checked}
 use Rattle.definitions.specs.Bytes.{number, bytes}
 use Rattle.definitions.specs.Instr.{Instr, recordLength, recordBytes}
 use Rattle.definitions.specs.Listing.{frontLength, listingLength, listingFront, countOf, recordsFrom, recordsOf, allGood, readListing, recordsBytes, listingBytes, recordLimit}
 use Rattle.instr.specs.declared.listings.Checked.the-variants.{Good}
 use Rattle.laws.proofs.Widths.{AllWithin}
-use Rattle.instr.specs.Values.{checkedIs, counted}
-use Rattle.instr.proofs.NumberLaws.{length-bytes, read-back}
-use Rattle.instr.proofs.RecordLaws.{write-then-read}
-use Rattle.instr.proofs.ListingLaws.{whole, few, length-records, front-good, front-is-good}
+use Rattle.instr.specs.Values.{checkedIs, counted, front}
+use Rattle.instr.proofs.NumberLaws.{length-bytes, read-back, write-back}
+use Rattle.instr.proofs.RecordLaws.{write-then-read, pieces, read-then-write}
+use Rattle.instr.proofs.ListingLaws.{front-says, whole, few, length-records, front-good, front-is-good}
 
 -- 1. A check that passed
 
@@ -26,6 +27,7 @@ passed true is n e = (refl, cc)
 passed false is n e = let z : _≡_ {A = ℕ} 0 1 = cc in absurd (omega arith)
 
 pub record Accepted (s : List ℕ) (n : ℕ) : Type 0 where
+  pub front : listingFront s ≡ true
   pub reads : readListing s ≡ made (recordsOf s)
   pub count : n ≡ countOf s
   pub few : n ≤ recordLimit
@@ -38,7 +40,7 @@ accepted s n e =
     let q = passed (listingFront s && allGood (recordsOf s)) (recordsOf s) n e in
     let b = and-eq-true-iff (listingFront s) (allGood (recordsOf s)) .0 (q .0) in
     let m : n ≡ countOf s = q .1 ∙ length-records (countOf s) s frontLength in
-    record { reads = rw (b .0, b .1); count = m; few = rw m (few s (b .0)); fills = rw m (whole s (b .0)); good = b .1 }
+    record { front = b .0; reads = rw (b .0, b .1); count = m; few = rw m (few s (b .0)); fills = rw m (whole s (b .0)); good = b .1 }
 
 -- 2. Written, then read
 
@@ -89,3 +91,35 @@ written-is-read is h g m =
     let a : recordsFrom (length is) s frontLength ≡ is = rw f at (records-back is h (1 ∷ bytes 4 w)) in
     let t : listingFront s ≡ true = front-is-good s ((length s - frontLength) / recordLength) (front-good s w (omega arith) refl (sym n) (omega arith) d (omega arith)) .0 in
     rw (t, count-is s (length is) k, a, g)
+
+-- 3. Read, then written
+
+-- a front that passed, as it is written
+front-again : (s : List ℕ) → listingFront s ≡ true → ((k : ℕ) → getD s k 0 < 256) → front (countOf s) ≡ take frontLength s
+front-again s f b =
+    let k = front-says s f in
+    let l : frontLength + number 4 s 1 ≡ length s = k .1 in
+    let w : number 4 s 1 ≡ recordLength * countOf s = omega (arith, whole s f, l) in
+    let e : bytes 4 (number 4 s 1) ≡ take 4 (drop 1 s) = write-back 4 s 1 (omega arith) b in
+    rw (← w, e) (first-is s (k .0) (omega arith))
+  where
+    first-is : (s : List ℕ) → getD s 0 0 ≡ 1 → 0 < length s → 1 ∷ take 4 (drop 1 s) ≡ take frontLength s
+    first-is [] v h = absurd (omega arith)
+    first-is (x ∷ xs) v h = rw v
+
+records-again : (n : ℕ) (s : List ℕ) (at : ℕ) → at + recordLength * n ≤ length s → ((k : ℕ) → getD s k 0 < 256) → recordsBytes (recordsFrom n s at) ≡ take (recordLength * n) (drop at s)
+unfolding recordsFrom recordsBytes
+records-again zero s at h b = refl
+records-again (suc n) s at h b =
+    rw (read-then-write s at (omega arith) b, records-again n s (at + recordLength) (omega arith) b)
+    (pieces s at recordLength (recordLength * n) (at + recordLength) (recordLength * suc n) refl (omega arith))
+
+-- a listing that passed the check is its records, written
+pub read-is-written : (s : List ℕ) (n : ℕ) → Accepted s n → ((k : ℕ) → getD s k 0 < 256) → listingBytes (recordsFrom n s frontLength) ≡ s
+unfolding listingBytes
+read-is-written s n a b =
+    let r = recordLength * n in
+    let rest : take r (drop frontLength s) ≡ drop frontLength s = take-all r (drop frontLength s) (omega (arith, length-drop frontLength s, a .fills)) in
+    let first : front n ≡ take frontLength s = rw (a .count) (front-again s (a .front) b) in
+    rw (length-records n s frontLength, records-again n s frontLength (omega (arith, a .fills)) b, rest)
+    (ap (λ (l : List ℕ). l ++ drop frontLength s) first ∙ take-append-drop frontLength s)

@@ -50,7 +50,7 @@ pub(crate) fn number_after(s: &[u8], at: usize, k: usize, w: usize) -> u64
 }
 
 // The fast forms, for bytes that are in the slice: the compiler makes one load of each.
-pub(crate) fn u16_inside(s: &[u8], at: usize) -> u16
+pub fn u16_inside(s: &[u8], at: usize) -> u16
     requires { ⌜ at + 2 ≤ length (now s) ⌝ }
     ensures { λ r. ⌜ r ≡ number 2 (now (s .entry)) at ⌝ }
 {
@@ -109,7 +109,7 @@ pub fn u64_at(s: &[u8], at: usize) -> u64
 }
 
 // A number in w bytes of a part, from `at` on: the last byte first.
-pub(crate) fn put_number(part: &mut [u8], at: usize, w: usize, v: u64)
+pub fn put_number(part: &mut [u8], at: usize, w: usize, v: u64)
     requires { ⌜ at + w ≤ length (now part) ⌝ }
     ensures { λ _. ⌜ now (part .exit) ≡ stored at w v (now (part .entry)) ⌝ }
 {

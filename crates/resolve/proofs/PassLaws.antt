@@ -3,35 +3,35 @@ use Prim.Native.Nat.{ℕ, suc, _+_, _-_, _*_, _≤_, _<_}
 use mathlib.Core.Path.{_≡_, refl, ap, sym, _∙_}
 use mathlib.Core.List.{List, [], _∷_, _++_, append-assoc, append-nil}
 use native.Mathlib.Omega.{arith}
+use native.Mathlib.Nat.{zero-add}
 use native.Mathlib.Numerals.{add-one}
 use lib.Dec.{leb}
-use lib.ListN.{length, take, drop, length-append, length-drop, take-append-drop}
-use lib.Seq.{take-at, drop-at, take-length, drop-length, drop-drop, append-snoc, length-take-le}
+use lib.ListN.{length, getD, take, drop, set, length-append}
+use lib.Seq.{take-append-add, take-length, drop-at, append-snoc, paste, paste-suc}
 use borrow.Author.Tests.{le-leb, lt-leb}
-use borrow.Rule.Slice.PartMut.{putMid}
 use Rattle.definitions.specs.Answer.{Result, made, refusal, onward, checked}
+use Rattle.definitions.specs.Bytes.{bytes}
 use Rattle.definitions.specs.Tag.{tagSize}
 use Rattle.definitions.specs.Instr.{Instr, size, recordLength, recordBytes, recordAt}
-use Rattle.definitions.specs.Listing.{frontLength, listingLength, recordsFrom, readListing, recordsBytes, listingBytes, recordLimit}
+use Rattle.definitions.specs.Listing.{frontLength, listingLength, recordsFrom, readListing, recordsBytes, listingBytes}
 use Rattle.definitions.specs.Resolve.{resolveRecord, resolveRecords, resolve}
 use Rattle.definitions.specs.Stage.{over, coded, resolveTo}
 use Rattle.laws.proofs.Inversion.{refusal-not-made}
 use Rattle.laws.proofs.Results.{onward-made, onward-assoc, onward-same}
-use Rattle.instr.specs.declared.records.Record.{Record}
+use Rattle.laws.proofs.Sizes.{size-limit}
 use Rattle.instr.specs.declared.listings.Checked.{Checked}
 use Rattle.instr.specs.declared.listings.Checked.the-variants.{Good, Bad}
-use Rattle.instr.specs.Values.{instrOf, checkedIs, counted, written, front, frontFits, frontWritten}
+use Rattle.instr.specs.Values.{checkedIs, counted, front, stored}
 use Rattle.instr.proofs.NumberLaws.{length-bytes}
 use Rattle.instr.proofs.ListingLaws.{length-records}
 use Rattle.instr.proofs.RecordLaws.{skip}
+use Rattle.resolve.proofs.LabelLaws.{mapped-or-not}
 use Rattle.resolve.proofs.Listed.{resolved-length}
-use Rattle.instr.proofs.WholeLaws.{records-snoc, Accepted, accepted, length-record, length-records-bytes, length-listing}
+use Rattle.instr.proofs.WholeLaws.{records-snoc, Accepted, accepted, length-records-bytes, length-listing, read-is-written}
 use Rattle.ir.specs.declared.Refusal.{Refusal}
 use Rattle.resolve.specs.declared.Resolved.{Resolved}
 use Rattle.resolve.specs.declared.Resolved.the-variants.{Done, Refused}
-use Rattle.resolve.specs.declared.labels.Mapped.{Mapped}
-use Rattle.resolve.specs.declared.labels.Mapped.the-variants as mapped
-use Rattle.resolve.specs.Values.{mappedIs, resolvedIs, resolving}
+use Rattle.resolve.specs.Values.{relabelled, resolvedIs, resolving}
 
 -- 1. Records one by one
 
@@ -56,37 +56,36 @@ records-none : (s : List ℕ) (count n at : ℕ) → count ≤ n → recordsFrom
 unfolding recordsFrom
 records-none s count n at h = let e : count - n ≡ 0 = omega arith in rw e
 
--- the next record, as it is read and mapped
-pub record Next (s marks : List ℕ) (n start : ℕ) (i : Instr) (x : Mapped) : Type 0 where
-  pub reads : i ≡ recordAt s (listingLength n)
-  pub maps : mappedIs x ≡ resolveRecord marks start n i
+-- the record that is next
+abbrev pub nextOf : (s : List ℕ) (n : ℕ) → Instr
+nextOf s n = recordAt s (listingLength n)
 
 module _ {s marks : List ℕ} {count n start : ℕ} {done : List Instr} (g : Gone s marks count n start done) where
-  module _ (h : n < count) {i : Instr} {x : Mapped} (k : Next s marks n start i x) where
+  module _ (h : n < count) where
     -- the whole, with the next record in front of what is left
     split : resolveRecords marks 0 0 (recordsFrom count s frontLength) ≡
-        onward (mappedIs x) (λ j. onward (resolveRecords marks (start + size i) (suc n) (recordsFrom (count - (n + 1)) s (listingLength n + recordLength))) (λ rs. made (done ++ j ∷ rs)))
+        onward (resolveRecord marks start n (nextOf s n)) (λ j. onward (resolveRecords marks (start + size (nextOf s n)) (suc n) (recordsFrom (count - (n + 1)) s (listingLength n + recordLength))) (λ rs. made (done ++ j ∷ rs)))
     unfolding resolveRecords onward
     split =
-        rw (g .goes-on, records-next s count n (listingLength n) h, ← (k .reads), onward-assoc (resolveRecord marks start n i), k .maps)
+        let i = nextOf s n in
+        rw (g .goes-on, records-next s count n (listingLength n) h, onward-assoc (resolveRecord marks start n i))
         (onward-same (resolveRecord marks start n i) _ _ (λ j _. onward-assoc (resolveRecords marks (start + size i) (suc n) (recordsFrom (count - (n + 1)) s (listingLength n + recordLength))) (λ rs. made (j ∷ rs)) (λ rs. made (done ++ rs))))
 
-    pub gone-next : (r : Record) (z : ℕ) → x ≡ mapped.Is r → (z ≡ tagSize (i .tag)) × (z ≤ 17) → Gone s marks count (n + 1) (start + z) (done ++ (instrOf r ∷ []))
-    unfolding mappedIs onward size
-    gone-next r z d l =
-        let j = instrOf r in
+    pub gone-next : (j : Instr) (z : ℕ) → made j ≡ resolveRecord marks start n (nextOf s n) → z ≡ tagSize (nextOf s n .tag) → Gone s marks count (n + 1) (start + z) (done ++ (j ∷ []))
+    unfolding onward size
+    gone-next j z d l =
         let a : listingLength n + recordLength ≡ listingLength (n + 1) = omega arith in
         let R = resolveRecords marks (start + z) (n + 1) (recordsFrom (count - (n + 1)) s (listingLength (n + 1))) in
         record {
           few = omega arith;
-          low = omega (arith, g .low, l .1);
+          low = omega (arith, g .low, size-limit (nextOf s n .tag));
           many = omega (arith, length-append done (j ∷ []), g .many);
-          goes-on = split ∙ rw (d, mappedIs, onward, a, ← (l .0), ← add-one n) (onward-same R _ _ (λ rs _. ap made (sym (append-snoc done j rs))));
+          goes-on = split ∙ rw (← d, a, ← l, ← add-one n) (onward-same R _ _ (λ rs _. ap made (sym (append-snoc done j rs))));
         }
 
-    pub gone-refused : (q : Refusal) → x ≡ mapped.Not q → resolveRecords marks 0 0 (recordsFrom count s frontLength) ≡ refusal (q .number) (q .place) (q .extra)
-    unfolding mappedIs onward
-    gone-refused q d = split ∙ rw d
+    gone-refused : (q : Refusal) → refusal (q .number) (q .place) (q .extra) ≡ resolveRecord marks start n (nextOf s n) → resolveRecords marks 0 0 (recordsFrom count s frontLength) ≡ refusal (q .number) (q .place) (q .extra)
+    unfolding onward
+    gone-refused q d = split ∙ rw (← d)
 
   pub gone-end : count ≤ n → (resolveRecords marks 0 0 (recordsFrom count s frontLength) ≡ made done) × (length done ≡ count)
   unfolding resolveRecords onward
@@ -95,88 +94,134 @@ module _ {s marks : List ℕ} {count n start : ℕ} {done : List Instr} (g : Gon
 -- 2. The check of all labels
 
 module _ {s marks : List ℕ} {count n start : ℕ} {done : List Instr} (g : Gone s marks count n start done) where
-  pub labels-refused : n < count → {i : Instr} {x : Mapped} (q : Refusal) → Next s marks n start i x → x ≡ mapped.Not q → resolvedIs (Refused q) ≡ counted (resolveRecords marks 0 0 (recordsFrom count s frontLength))
+  pub labels-refused : n < count → (q : Refusal) → refusal (q .number) (q .place) (q .extra) ≡ resolveRecord marks start n (nextOf s n) → resolvedIs (Refused q) ≡ counted (resolveRecords marks 0 0 (recordsFrom count s frontLength))
   unfolding resolvedIs counted
-  labels-refused h q k d = rw (gone-refused g h k q d)
+  labels-refused h q d = rw (gone-refused g h q d)
 
   pub labels-end : count ≤ n → resolvedIs (Done count) ≡ counted (resolveRecords marks 0 0 (recordsFrom count s frontLength))
   unfolding resolvedIs counted
   labels-end h = let e = gone-end g h in rw (e .0, e .1)
 
-  -- where all have been checked, none is refused any more
-  pub labels-pass : {X : Type 0} → counted (resolveRecords marks 0 0 (recordsFrom count s frontLength)) ≡ made count → n < count → {i : Instr} {x : Mapped} (q : Refusal) → Next s marks n start i x → x ≡ mapped.Not q → X
+  -- where all have been checked, the next is not refused
+  next-made : counted (resolveRecords marks 0 0 (recordsFrom count s frontLength)) ≡ made count → n < count →
+      (f : ℕ) × (e : ℕ) × (made (relabelled (nextOf s n) f e) ≡ resolveRecord marks start n (nextOf s n))
   unfolding counted
-  labels-pass all h q k d = refusal-not-made (rw (gone-refused g h k q d) at all)
+  next-made all h = mapped-or-not marks start n (nextOf s n) (λ f e d. (f, e, d)) (λ q d. refusal-not-made (rw (gone-refused g h q d) at all))
 
 -- 3. The pass that writes
 
--- a record written where the rest of a buffer begins
-put-record : (p q part : List ℕ) (at : ℕ) (j : Instr) → length p ≡ at → recordLength ≤ length q → part ≡ written j (take (length (p ++ q) - at) (drop at (p ++ q))) →
-    putMid at (length (p ++ q) - at) (p ++ q) part ≡ p ++ (recordBytes j ++ drop recordLength q)
-unfolding written
-put-record p q part at j l h e =
-    let k : length (p ++ q) - at ≡ length q = omega (arith, length-append p q) in
-    let w : part ≡ recordBytes j ++ drop recordLength q = rw (k, drop-at p q at l, take-length q, le-leb recordLength (length q) h) at e in
-    rw (k, take-at p q at l, drop-at p q at l, drop-length q, w, append-nil)
+-- the listing's copy, a byte more and at its end
+pub copy-next : (s o out : List ℕ) (k : ℕ) → out ≡ paste o 0 s k → k < length s → length s ≤ length o → set out k (getD s k 0) ≡ paste o 0 s (k + 1)
+copy-next s o out k e h l =
+    let z : k ≡ 0 + k = omega arith in
+    rw (e, add-one k) (ap (λ (i : ℕ). set (paste o 0 s k) i (getD s k 0)) z ∙ paste-suc o 0 s k 0 (omega arith) h)
 
--- n records stand behind the front of the buffer that was `o` when the pass began, and what followed them stays
+pub copy-end : (s o out : List ℕ) (k : ℕ) → out ≡ paste o 0 s k → k ≤ length s → length s ≤ k → out ≡ over s o
+unfolding over
+copy-end s o out k e h l = let n : k ≡ length s = omega arith in e ∙ rw (n, take-length s, zero-add (length s))
+
+-- a number stored behind the front of a list
+stored-behind : (p q : List ℕ) (at k w v : ℕ) → length p ≡ at → stored (at + k) w v (p ++ q) ≡ p ++ stored k w v q
+stored-behind p q at k w v l =
+    let e : at + k + w ≡ at + (k + w) = omega arith in
+    rw (e, skip p q at (k + w) l, ← l, take-append-add p q k) (append-assoc p (take k q) (bytes w v ++ drop (k + w) q))
+
+-- the first and the second of a record
+put-first : (i : Instr) (r : List ℕ) (f : ℕ) → stored 2 2 f (recordBytes i ++ r) ≡ recordBytes (relabelled i f (i .second)) ++ r
+unfolding recordBytes bytes
+put-first i r f = refl
+
+put-second : (i : Instr) (r : List ℕ) (g : ℕ) → stored 4 2 g (recordBytes i ++ r) ≡ recordBytes (relabelled i (i .first) g) ++ r
+unfolding recordBytes bytes
+put-second i r g = refl
+
+-- n records stand behind the front of the buffer that was `o` when the pass began, and then those that are left, as they were
 pub record Coding (s marks : List ℕ) (count n start : ℕ) (o out : List ℕ) : Type 0 where
   pub done : List Instr
   pub gone : Gone s marks count n start done
-  pub room : listingLength count ≤ length o
   pub long : length out ≡ length o
-  pub wrote : out ≡ (take frontLength o ++ recordsBytes done) ++ drop (listingLength n) o
-
-pub coding-start : (s marks : List ℕ) (count : ℕ) (o : List ℕ) → listingLength count ≤ length o → Coding s marks count 0 0 o o
-unfolding recordsBytes
-coding-start s marks count o h = record { done = []; gone = gone-start s marks count; room = h; long = refl; wrote = sym (ap (λ y. y ++ drop frontLength o) (append-nil (take frontLength o)) ∙ take-append-drop frontLength o) }
-
-regroup : (a b c d : List ℕ) → (a ++ b) ++ (c ++ d) ≡ (a ++ (b ++ c)) ++ d
-regroup a b c d = simp append-assoc
+  pub wrote : out ≡ (front count ++ recordsBytes done) ++ (recordsBytes (recordsFrom (count - n) s (listingLength n)) ++ drop (listingLength count) o)
 
 over-listing : (is : List Instr) (b : List ℕ) → over (listingBytes is) b ≡ (front (length is) ++ recordsBytes is) ++ drop (listingLength (length is)) b
 unfolding over listingBytes
 over-listing is b = ap (λ k. listingBytes is ++ drop k b) (length-listing is)
 
+regroup : (a b c d : List ℕ) → (a ++ b) ++ (c ++ d) ≡ (a ++ (b ++ c)) ++ d
+regroup a b c d = simp append-assoc
+
+spread : (a b c : List ℕ) → (a ++ b) ++ c ≡ (a ++ []) ++ (b ++ c)
+spread a b c = rw (append-nil a) (append-assoc a b c)
+
+-- a listing that was copied to the front of a buffer, before the first record
+module _ (s : List ℕ) (count : ℕ) (a : Accepted s count) (o out : List ℕ) (copied : out ≡ over s o) where
+  behind : drop (listingLength count) out ≡ drop (listingLength count) o
+  unfolding over
+  behind = rw (copied, ← (a .fills)) (drop-at s (drop (listingLength count) o) (listingLength count) (sym (a .fills)))
+
+  pub coding-start : (marks : List ℕ) → ((k : ℕ) → getD s k 0 < 256) → Coding s marks count 0 0 out out
+  unfolding recordsBytes
+  coding-start marks b =
+      let is = recordsFrom count s frontLength in
+      let all : over s o ≡ (front count ++ recordsBytes is) ++ drop (listingLength count) o =
+      rw (length-records count s frontLength, read-is-written s count a b) at (over-listing is o) in
+      let e : count - 0 ≡ count = omega arith in
+      record { done = []; gone = gone-start s marks count; long = refl; wrote = rw (e, behind) (copied ∙ all ∙ spread (front count) (recordsBytes is) (drop (listingLength count) o)) }
+
 module _ {s marks : List ℕ} {count n start : ℕ} {o out : List ℕ} (c : Coding s marks count n start o out) where
-  -- where the next record begins
-  done-long : length (take frontLength o ++ recordsBytes (c .done)) ≡ listingLength n
-  done-long =
-      omega (arith, length-append (take frontLength o) (recordsBytes (c .done)), length-take-le frontLength o (omega (arith, c .room)), length-records-bytes (c .done), c .gone .many)
+  -- what stands before the next record, and behind it
+  abbrev before : List ℕ
+  before = front count ++ recordsBytes (c .done)
 
-  pub coding-next : n < count → {i : Instr} {x : Mapped} → Next s marks n start i x → (r : Record) (z : ℕ) → x ≡ mapped.Is r → (z ≡ tagSize (i .tag)) × (z ≤ 17) →
-      (part : List ℕ) → part ≡ written (instrOf r) (take (length out - listingLength n) (drop (listingLength n) out)) →
-      Coding s marks count (n + 1) (start + z) o (putMid (listingLength n) (length out - listingLength n) out part)
-  coding-next h k r z d l part w =
-      let p = take frontLength o ++ recordsBytes (c .done) in
-      let q = drop (listingLength n) o in
-      let j = instrOf r in
-      let a : listingLength n + recordLength ≡ listingLength (n + 1) = omega arith in
-      let b : recordLength ≤ length q = omega (arith, length-drop (listingLength n) o, c .room) in
-      let v : part ≡ written j (take (length (p ++ q) - listingLength n) (drop (listingLength n) (p ++ q))) = rw (c .wrote) at w in
-      let all : putMid (listingLength n) (length out - listingLength n) out part ≡ p ++ (recordBytes j ++ drop recordLength q) = rw (c .wrote) (put-record p q part (listingLength n) j done-long b v) in
-      let rest : drop recordLength q ≡ drop (listingLength (n + 1)) o = drop-drop recordLength (listingLength n) o ∙ ap (λ y. drop y o) a in
-      record {
-        done = c .done ++ (j ∷ []);
-        gone = gone-next (c .gone) h k r z d l;
-        room = c .room;
-        long = omega (arith, ap length all, length-append p (recordBytes j ++ drop recordLength q), length-append (recordBytes j) (drop recordLength q), length-record j, length-drop recordLength q, length-drop (listingLength n) o, done-long, c .room);
-        wrote = all ∙ rw (rest, records-snoc (c .done) j) (regroup (take frontLength o) (recordsBytes (c .done)) (recordBytes j) (drop (listingLength (n + 1)) o));
-      }
+  abbrev behind-it : List ℕ
+  behind-it = recordsBytes (recordsFrom (count - (n + 1)) s (listingLength (n + 1))) ++ drop (listingLength count) o
 
-  -- the front before the pass, and all records after it
-  pub coding-end : (out₀ : List ℕ) → count ≤ n → count ≤ recordLimit → o ≡ frontWritten count out₀ → length o ≡ length out₀ →
-      resolving (Done count) out ≡ resolveTo (resolveRecords marks 0 0 (recordsFrom count s frontLength)) out₀
-  unfolding resolving resolveTo frontWritten frontFits
-  coding-end out₀ h few f same =
+  before-long : length before ≡ listingLength n
+  before-long = omega (arith, length-append (bytes 4 (recordLength * count)) (recordsBytes (c .done)), length-bytes 4 (recordLength * count), length-records-bytes (c .done), c .gone .many)
+
+  module _ (h : n < count) where
+    here : out ≡ before ++ (recordBytes (nextOf s n) ++ behind-it)
+    unfolding recordsBytes
+    here =
+        let a : listingLength n + recordLength ≡ listingLength (n + 1) = omega arith in
+        c .wrote ∙ rw (records-next s count n (listingLength n) h, a) (ap (λ (l : List ℕ). before ++ l) (append-assoc (recordBytes (nextOf s n)) (recordsBytes (recordsFrom (count - (n + 1)) s (listingLength (n + 1)))) (drop (listingLength count) o)))
+
+    -- the next record is j, and stands in its place
+    next : (j : Instr) (z : ℕ) → made j ≡ resolveRecord marks start n (nextOf s n) → z ≡ tagSize (nextOf s n .tag) →
+        (out′ : List ℕ) → length out′ ≡ length out → out′ ≡ before ++ (recordBytes j ++ behind-it) → Coding s marks count (n + 1) (start + z) o out′
+    next j z d l out′ same w = record {
+      done = c .done ++ (j ∷ []);
+      gone = gone-next (c .gone) h j z d l;
+      long = same ∙ c .long;
+      wrote = w ∙ rw (records-snoc (c .done) j) (regroup (front count) (recordsBytes (c .done)) (recordBytes j) behind-it);
+    }
+
+    -- it carries no label, and nothing is stored
+    pub coding-plain : (z : ℕ) → made (nextOf s n) ≡ resolveRecord marks start n (nextOf s n) → z ≡ tagSize (nextOf s n .tag) → Coding s marks count (n + 1) (start + z) o out
+    coding-plain z d l = next (nextOf s n) z d l out refl here
+
+    -- its distances are stored
+    pub coding-labels : counted (resolveRecords marks 0 0 (recordsFrom count s frontLength)) ≡ made count → (z : ℕ) → z ≡ tagSize (nextOf s n .tag) → (out′ : List ℕ) → length out′ ≡ length out →
+        ((f e : ℕ) → made (relabelled (nextOf s n) f e) ≡ resolveRecord marks start n (nextOf s n) → out′ ≡ stored (listingLength n + 4) 2 e (stored (listingLength n + 2) 2 f out)) →
+        Coding s marks count (n + 1) (start + z) o out′
+    coding-labels all z l out′ same w =
+        let i = nextOf s n in
+        let k = next-made (c .gone) all h in
+        let f = k .0 in
+        let e = k .1 in
+        let j = relabelled i f (i .second) in
+        let one : stored (listingLength n + 2) 2 f out ≡ before ++ (recordBytes j ++ behind-it) =
+        rw here (stored-behind before (recordBytes i ++ behind-it) (listingLength n) 2 2 f before-long ∙ ap (λ (l : List ℕ). before ++ l) (put-first i behind-it f)) in
+        let two : out′ ≡ before ++ (recordBytes (relabelled i f e) ++ behind-it) =
+        w f e (k .2) ∙ rw one (stored-behind before (recordBytes j ++ behind-it) (listingLength n) 4 2 e before-long ∙ ap (λ (l : List ℕ). before ++ l) (put-second j behind-it e)) in
+        next (relabelled i f e) z (k .2) l out′ same two
+
+  -- all records are done
+  pub coding-end : (p : List ℕ) → count ≤ n → Accepted s count → o ≡ over s p → coded count out ≡ resolveTo (resolveRecords marks 0 0 (recordsFrom count s frontLength)) p
+  unfolding resolveTo recordsBytes
+  coding-end p h a copied =
       let e = gone-end (c .gone) h in
-      let n-is : n ≡ count = omega (arith, h, c .gone .few) in
-      let b : o ≡ front count ++ drop frontLength out₀ = rw (le-leb count recordLimit few, le-leb frontLength (length out₀) (omega (arith, c .room, same))) at f in
-      let five : length (front count) ≡ frontLength = ap suc (length-bytes 4 (recordLength * count)) in
-      let t : take frontLength o ≡ front count = rw b (take-at (front count) (drop frontLength out₀) frontLength five) in
-      let u : drop (listingLength count) o ≡ drop (listingLength count) out₀ = rw b (skip (front count) (drop frontLength out₀) frontLength (recordLength * count) five ∙ drop-drop (recordLength * count) frontLength out₀) in
-      let w : out ≡ (front count ++ recordsBytes (c .done)) ++ drop (listingLength count) out₀ = rw (n-is, t, u) at (c .wrote) in
-      rw (e .0, over-listing (c .done) out₀, e .1) (ap (coded count) w)
+      let w : out ≡ (front count ++ recordsBytes (c .done)) ++ drop (listingLength count) p = rw (records-none s count n (listingLength n) h, behind s count a p o copied) at (c .wrote) in
+      rw (e .0, over-listing (c .done) p, e .1) (ap (coded count) w)
 
 -- 4. What `resolve` answers
 
@@ -195,19 +240,22 @@ pub answer-30 : (s marks : List ℕ) (space : ℕ) (o : List ℕ) (r : Checked) 
 unfolding checkedIs resolving resolveTo resolve onward
 answer-30 s marks space o r d e = rw (refused-is (readListing s) 30 0 0 (rw d at e))
 
-accepts : (s : List ℕ) (n : ℕ) (r : Checked) → r ≡ Good n → checkedIs r ≡ counted (readListing s) → Accepted s n
-accepts s n r good check = accepted s n (rw good at check)
+pub passes : (s : List ℕ) (n : ℕ) (r : Checked) → r ≡ Good n → checkedIs r ≡ counted (readListing s) → made n ≡ counted (readListing s)
+unfolding checkedIs
+passes s n r good check = rw good at check
 
-pub few : (s : List ℕ) (n : ℕ) (r : Checked) → r ≡ Good n → checkedIs r ≡ counted (readListing s) → n ≤ recordLimit
-few s n r good check = accepts s n r good check .few
+-- what a listing that passed its check has
+pub accepts : {s : List ℕ} {n : ℕ} → made n ≡ counted (readListing s) → Accepted s n
+unfolding checkedIs
+accepts {s} {n} pass = accepted s n pass
 
-module _ (s marks : List ℕ) (n : ℕ) (r : Checked) (good : r ≡ Good n) (check : checkedIs r ≡ counted (readListing s)) where
+module _ (s marks : List ℕ) (n : ℕ) (pass : made n ≡ counted (readListing s)) where
   abbrev all : Result (List Instr)
   all = resolveRecords marks 0 0 (recordsFrom n s frontLength)
 
   resolve-is : (space : ℕ) → resolve s marks space ≡ onward all (λ rs. checked (leb (listingLength (length rs)) space) 20 0 0 (made rs))
   unfolding resolve onward
-  resolve-is space = let a = accepts s n r good check in rw (a .reads, a .count)
+  resolve-is space = let a = accepts pass in rw (a .reads, a .count)
 
   module _ (x : Resolved) (labels : resolvedIs x ≡ counted (resolveRecords marks 0 0 (recordsFrom n s frontLength))) where
     pub answer-labels : (space : ℕ) (o : List ℕ) (q : Refusal) → x ≡ Refused q → resolving x o ≡ resolveTo (resolve s marks space) o

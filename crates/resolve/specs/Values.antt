@@ -6,7 +6,6 @@ use Rattle.definitions.specs.Answer.{Result, made, refusal, checked}
 use Rattle.definitions.specs.Instr.{Instr}
 use Rattle.definitions.specs.Resolve.{inRange, word}
 use Rattle.definitions.specs.Stage.{Resolving, coded, unresolved}
-use Rattle.instr.specs.Values.{instrOf}
 use Rattle.resolve.specs.declared.Resolved.{Resolved}
 use Rattle.resolve.specs.declared.Resolved.the-variants.{Done, Refused}
 use Rattle.resolve.specs.declared.labels.Field.{Field}
@@ -14,15 +13,21 @@ use Rattle.resolve.specs.declared.labels.Field.the-variants as field
 use Rattle.resolve.specs.declared.labels.Mapped.{Mapped}
 use Rattle.resolve.specs.declared.labels.Mapped.the-variants as mapped
 
--- a field, a record, a pass over all records
+-- a field
 unfoldable pub fieldIs : Field → Result ℕ
 fieldIs (field.Is v) = made v
 fieldIs (field.Not q) = refusal (q .number) (q .place) (q .extra)
 
-unfoldable pub mappedIs : Mapped → Result Instr
-mappedIs (mapped.Is r) = made (instrOf r)
-mappedIs (mapped.Not q) = refusal (q .number) (q .place) (q .extra)
+-- a record with another first and second
+abbrev pub relabelled : Instr → (first second : ℕ) → Instr
+relabelled i f s = record { tag = i .tag; small = i .small; first = f; second = s; line = i .line; flags = i .flags; value = i .value }
 
+-- the record i, mapped
+unfoldable pub mappedIs : (i : Instr) → Mapped → Result Instr
+mappedIs i (mapped.Is f s) = made (relabelled i f s)
+mappedIs i (mapped.Not q) = refusal (q .number) (q .place) (q .extra)
+
+-- a pass over all records
 unfoldable pub resolvedIs : Resolved → Result ℕ
 resolvedIs (Done n) = made n
 resolvedIs (Refused q) = refusal (q .number) (q .place) (q .extra)

@@ -1,12 +1,19 @@
 // A label of a record, and the distance that is stored in its place.
 ghost use mathlib.Core.Path.{_≡_};
-ghost use lib.ListN.{getD};
+ghost use Prim.Native.Nat.{ℕ, _+_, _≤_};
+ghost use lib.ListN.{length, getD};
+ghost use Rattle.definitions.specs.Answer.{made};
+ghost use Rattle.definitions.specs.Tag.{rowOf};
 ghost use Rattle.definitions.specs.Code.{unmarked};
+ghost use Rattle.definitions.specs.Instr.{recordLength, recordAt};
 ghost use Rattle.definitions.specs.Resolve.{distanceOf, resolveField, resolveRecord};
-ghost use Rattle.instr.specs.Values.{instrOf};
-ghost use Rattle.resolve.specs.Values.{fieldIs, mappedIs, near};
+ghost use Rattle.instr.specs.Values.{rowIs, stored};
+ghost use Rattle.resolve.specs.Values.{fieldIs, relabelled, mappedIs, near};
+use instr::numbers::put_number;
+use instr::numbers::u16_inside;
 use instr::records::Record;
 use instr::tables;
+use instr::tables::Row;
 use ir::Refusal;
 
 // The mark of a label that lands nowhere.
@@ -18,9 +25,9 @@ pub(crate) enum Field {
     Not(Refusal),
 }
 
-// A record with distances in place of its labels, or why there is none.
+// What a record's first and second hold with distances in place of labels, or why there is no such record.
 pub(crate) enum Mapped {
-    Is(Record),
+    Is { first: u16, second: u16 },
     Not(Refusal),
 }
 
@@ -96,28 +103,53 @@ fn map_label(
     Field::Is(field)
 }
 
-// A record: its first, then its second. The row of its tag says which of them carry a label.
-pub(crate) fn map_labels(marks: &[u32], start: usize, number: usize, r: Record) -> Mapped
-    ensures { λ m. ⌜ mappedIs m ≡ resolveRecord (now (marks .entry)) start number (instrOf r) ⌝ }
+// The record that begins at a place of a listing: its first, then its second. The row of its tag says which of them carry a label.
+pub(crate) fn map_labels(
+    row: Row,
+    listing: &[u8],
+    at: usize,
+    marks: &[u32],
+    start: usize,
+    number: usize,
+) -> Mapped
+    requires { ⌜ (at + recordLength ≤ length (now listing)) × (rowIs row ≡ rowOf (recordAt (now listing) at .tag)) ⌝ }
+    ensures { λ m. ⌜ mappedIs (recordAt (now (listing .entry)) at) m ≡ resolveRecord (now (marks .entry)) start number (recordAt (now (listing .entry)) at) ⌝ }
 {
-    let row = tables::row_of(r.tag);
-    let first = map_label(row.first, marks, start, number, 0, r.first);
+    let label = u16_inside(listing, at + Record::FIRST);
+    let first = map_label(row.first, marks, start, number, 0, label);
     match first {
         Field::Not(q) => Mapped::Not(q),
         Field::Is(f) => {
-            let second = map_label(row.second, marks, start, number, 1, r.second);
+            let label = u16_inside(listing, at + Record::SECOND);
+            let second = map_label(row.second, marks, start, number, 1, label);
             match second {
                 Field::Not(q) => Mapped::Not(q),
-                Field::Is(s) => Mapped::Is(Record {
-                    tag: r.tag,
-                    small: r.small,
+                Field::Is(s) => Mapped::Is {
                     first: f,
                     second: s,
-                    line: r.line,
-                    flags: r.flags,
-                    value: r.value,
-                }),
+                },
             }
         }
+    }
+}
+
+// The distances of that record, into its place in a copy of the listing. Its labels have been checked: none is refused here. A field that
+// carries no label is stored as it is. The row comes by `row_of`, for the same reason for which sizes do in `into_code`.
+pub(crate) fn put_distances(
+    listing: &[u8],
+    at: usize,
+    marks: &[u32],
+    start: usize,
+    number: usize,
+    out: &mut [u8],
+)
+    requires { ⌜ (at + recordLength ≤ length (now listing)) × (at + recordLength ≤ length (now out)) ⌝ }
+    ensures { λ _. ⌜ ((f s : ℕ) → made (relabelled (recordAt (now (listing .entry)) at) f s) ≡ resolveRecord (now (marks .entry)) start number (recordAt (now (listing .entry)) at) → now (out .exit) ≡ stored (at + 4) 2 s (stored (at + 2) 2 f (now (out .entry)))) ⌝ }
+{
+    let row = tables::row_of(listing[at]);
+    let mapped = map_labels(row, listing, at, marks, start, number);
+    if let Mapped::Is { first, second } = mapped {
+        put_number(out, at + Record::FIRST, 2, first as u64);
+        put_number(out, at + Record::SECOND, 2, second as u64);
     }
 }
