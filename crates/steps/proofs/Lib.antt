@@ -3,3 +3,5 @@ pub mod RunLaws
 mod LeafLaws
 mod FlagLaws
 pub mod HeadLaws
+pub mod ByHand
+pub mod Lending

@@ -14,7 +14,7 @@ use Rattle.definitions.specs.Tag.{tagSize, rowOf, WeakRefToRef, Nop}
 use Rattle.definitions.specs.Tag as definitions
 use Rattle.definitions.specs.Instr.{Instr, recordBytes, size, plain}
 use Rattle.definitions.specs.Listing.{listingLength}
-use Rattle.definitions.specs.Code.{Code, done, _then_, label, Action, mark, new, emit, refuse, unmarked, labelLimit, act}
+use Rattle.definitions.specs.Code.{Code, done, _then_, label, Action, mark, new, emit, refuse, labelLimit, act}
 use Rattle.definitions.specs.Lower.{require, jumpTo, jump, instr, weakToRef, nullTag, elementTag, nops, BlockSpan}
 use Rattle.instr.specs.Values.{written, rowIs}
 use Rattle.instr.specs.declared.tables.Row.{Row}
@@ -22,6 +22,7 @@ use Rattle.definitions.specs.Answer.{onward, checked}
 use Rattle.laws.proofs.Sizes.{size-is}
 use Rattle.laws.proofs.Results.{onward-assoc, onward-made, onward-same}
 use Rattle.steps.specs.Running.{Cells, put, setMade, move, run}
+use Rattle.steps.specs.Counting.{emittedOf, labelledOf, listed, unmarkedAt, markedAt}
 use Rattle.ir.specs.declared.Class.{Class}
 use Rattle.steps.specs.Walked.{fillCode, groupLabel, openCode, ran, labelsOf, targetOf, Did, Emitted, Labelled, Left}
 use Rattle.steps.specs.declared.Counters.{Counters}
@@ -55,14 +56,17 @@ acts : (a : Action) (w : Walk) (k : Counters) (o m : List ℕ) (r : Walk) (o′ 
 unfolding ran onward run
 acts a w k o m r o′ m′ e q u v = rw e (record { same = q; outs = u; marked = v })
 
-pub mark-did : (w : Walk) (k : Counters) (m : List ℕ) (l : ℕ) (m′ : List ℕ) → w ≡ Going k → m′ ≡ setMade m l (k .offset) (k .labels) → length m′ ≡ length m → Labelled (act (mark l)) w m (Going k) m′
+pub mark-did : (w : Walk) (k d : Counters) (m : List ℕ) (l : ℕ) (m′ : List ℕ) → w ≡ Going k → d ≡ k → m′ ≡ markedAt k l m → length m′ ≡ length m → Labelled (act (mark l)) w m (Going d) m′
 unfolding ran move
-mark-did w k m l m′ e q u = record { did = λ o. acts _ w k o m (Going k) o m′ e (rw q) refl u }
+mark-did w k d m l m′ e f q u = record { did = λ o. acts _ w k o m (Going d) o m′ e (rw (f, q)) refl u }
 
-pub new-did : (w : Walk) (k : Counters) (m : List ℕ) (at : ℕ) (m′ : List ℕ) → k .labels < 65536 → w ≡ Going k → m′ ≡ set m (k .labels) 4294967295 →
-    Labelled (act (new at)) w m (Going (record { offset = k .offset; labels = k .labels + 1; count = k .count })) m′
-unfolding ran move unmarked labelLimit checked
-new-did w k m at m′ h e q = record { did = λ o. acts _ w k o m _ o m′ e (rw (q, move, lt-ltb (k .labels) 65536 h, checked)) refl (ap length q ∙ simp length-set) }
+-- below the limit the sum is the definition's
+pub new-did : (w : Walk) (k d : Counters) (m : List ℕ) (at : ℕ) (m′ : List ℕ) → k .labels < 65536 → w ≡ Going k → d ≡ labelledOf k → m′ ≡ unmarkedAt k m →
+    Labelled (act (new at)) w m (Going d) m′
+unfolding ran move labelLimit checked
+new-did w k d m at m′ h e f q =
+    let n : (k .labels + 1) % 2 ^ 32 ≡ k .labels + 1 = omega arith in
+    record { did = λ o. acts _ w k o m _ o m′ e (rw (f, q, n, move, lt-ltb (k .labels) 65536 h, checked)) refl (ap length q ∙ simp length-set) }
 
 pub new-stopped : (w : Walk) (k : Counters) (m : List ℕ) (at : ℕ) → 65536 ≤ k .labels → w ≡ Going k →
     Labelled (act (new at)) w m (Stopped (record { number = 15; place = at; extra = 0 })) m
@@ -94,12 +98,18 @@ put-cut : (o : List ℕ) (k : ℕ) (i : Instr) → put o k (cut i) ≡ put o k i
 unfolding put recordBytes
 put-cut o k i = simp (byte-cut (i .small), bytes-cut (i .first), bytes-cut (i .second))
 
-pub emit-did : (w : Walk) (k : Counters) (o : List ℕ) (i j : Instr) (size offset count : ℕ) (o′ : List ℕ) → w ≡ Going k →
-    j ≡ cut i → size ≡ tagSize (i .tag) → offset ≡ (k .offset + size) % 2 ^ 32 → count ≡ (k .count + 1) % 2 ^ 32 →
-    o′ ≡ put o (k .count) j → length o′ ≡ length o →
-    Emitted (act (emit i)) w o (Going (record { offset = offset; labels = k .labels; count = count })) o′
+-- the counters and the listing after a record
+pub emitted-is : (k : Counters) (i : Instr) (size offset count : ℕ) → size ≡ tagSize (i .tag) → offset ≡ (k .offset + size) % 2 ^ 32 → count ≡ (k .count + 1) % 2 ^ 32 →
+    record { offset = offset; labels = k .labels; count = count } ≡ emittedOf k i
+emitted-is k i size offset count g h n = rw (h, n, g, size-is i)
+
+pub put-is : (o : List ℕ) (k : ℕ) (i j : Instr) (o′ : List ℕ) → j ≡ cut i → o′ ≡ put o k j → o′ ≡ put o k i
+put-is o k i j o′ q p = rw (p, q, put-cut o k i)
+
+pub emit-did : (w : Walk) (k d : Counters) (o : List ℕ) (i : Instr) (o′ : List ℕ) → w ≡ Going k → d ≡ emittedOf k i → o′ ≡ listed k i o → length o′ ≡ length o →
+    Emitted (act (emit i)) w o (Going d) o′
 unfolding ran move
-emit-did w k o i j size offset count o′ e q g h n p u = record { did = λ m. acts _ w k o m _ o′ m e (rw (p, q, put-cut o (k .count) i, h, n, g, size-is i)) u refl }
+emit-did w k d o i o′ e f p u = record { did = λ m. acts _ w k o m _ o′ m e (rw (f, p)) u refl }
 
 take-drop-all : (n : ℕ) (l : List ℕ) → take n l ++ drop n l ≡ l
 take-drop-all zero l = refl

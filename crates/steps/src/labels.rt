@@ -5,13 +5,13 @@ ghost use lib.ListN.{set};
 ghost use Rattle.definitions.specs.Code.{Action, new, mark, act, many, done, label};
 ghost use Rattle.steps.specs.Running.{setMade};
 ghost use Rattle.steps.specs.Walked.{labelsOf, Labelled};
-use crate::Counters;
 use crate::Walk;
+use crate::lent;
 use ir::Refusal;
 
 pub const LABELS: u32 = 65536;
 
-const UNMARKED: u32 = 4294967295;
+pub(crate) const UNMARKED: u32 = 4294967295;
 
 // A mark, where it fits.
 pub(crate) fn put_mark(marks: &mut [u32], l: usize, v: u32)
@@ -48,14 +48,9 @@ pub fn new_label(w: Walk, at: usize, marks: &mut [u32]) -> Walk
     let Walk::Going(c) = w else {
         return w;
     };
-    let l = c.labels;
-    if l < LABELS {
-        put_mark(marks, l as usize, UNMARKED);
-        return Walk::Going(Counters {
-            offset: c.offset,
-            labels: l + 1,
-            count: c.count,
-        });
+    if c.labels < LABELS {
+        let d = lent::with_label(c, marks);
+        return Walk::Going(d);
     }
     Walk::Stopped(Refusal {
         number: 15,
@@ -84,6 +79,6 @@ pub fn mark_label(w: Walk, label: usize, marks: &mut [u32]) -> Walk
     let Walk::Going(c) = w else {
         return w;
     };
-    put_made(marks, label, c.offset, c.labels);
-    w
+    let d = lent::with_mark(c, label, marks);
+    Walk::Going(d)
 }

@@ -2,6 +2,7 @@
 pub mod calls;
 pub mod heads;
 pub mod labels;
+pub mod lent;
 pub mod pieces;
 pub mod places;
 pub mod records;
@@ -12,7 +13,7 @@ pub mod tags;
 
 use ir::Refusal;
 
-// What has been emitted: its virtual size, how many labels, how many records.
+// What has been emitted: its virtual size, how many labels, how many records. Lent and changed in `lent`.
 pub struct Counters {
     pub offset: u32,
     pub labels: u32,

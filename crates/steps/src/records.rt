@@ -9,15 +9,14 @@ ghost use Rattle.definitions.specs.Lower.{jump, jumps, emitSwitch, invoke};
 ghost use Rattle.steps.specs.Running.{put};
 ghost use Rattle.instr.specs.Values as Values;
 ghost use Rattle.steps.specs.Walked.{instrOf, Emitted};
-use crate::Counters;
 use crate::Op;
 use crate::Walk;
+use crate::lent;
 use instr::listings;
 use instr::records;
 use instr::records::Record;
 use instr::tables;
 use instr::tag;
-use std::num::wrapping_add_u32;
 
 // Record k, where it fits.
 pub(crate) fn put_record(out: &mut [u8], k: u32, r: Record)
@@ -44,25 +43,21 @@ pub(crate) fn record_of(op: Op) -> Record
     }
 }
 
-fn size_of(tag: u8) -> u32
+pub(crate) fn size_of(tag: u8) -> u32
     ensures { λ r. ⌜ r ≡ tagSize tag ⌝ }
 {
     tables::size_of(tag) as u32
 }
 
-// The next record. Neither sum wraps in the walk of a unit: after every action both are the definition's, far below 2^32 (assemble's unwrapped).
+// The next record.
 pub fn emit(w: Walk, op: Op, out: &mut [u8]) -> Walk
     ensures { λ r. ⌜ Emitted (act (Action.emit (instrOf op))) w (now (out .entry)) r (now (out .exit)) ⌝ }
 {
     let Walk::Going(c) = w else {
         return w;
     };
-    put_record(out, c.count, record_of(op));
-    Walk::Going(Counters {
-        offset: wrapping_add_u32(c.offset, size_of(op.tag)),
-        labels: c.labels,
-        count: wrapping_add_u32(c.count, 1),
-    })
+    let d = lent::with_record(c, op, out);
+    Walk::Going(d)
 }
 
 // A field, where the tag uses it.
