@@ -1,7 +1,3 @@
-mod ExprCode
-mod StmtCode
-mod CaseLaws
 mod WholeLaws
-mod MidLaws
 mod LowerLaws
 mod Counters

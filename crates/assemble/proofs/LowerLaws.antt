@@ -35,8 +35,8 @@ use Rattle.steps.specs.declared.Target.the-variants.{Nowhere}
 use Rattle.steps.specs.declared.Walk.{Walk}
 use Rattle.steps.specs.declared.Walk.the-variants.{Going, Stopped}
 use Rattle.assemble.specs.declared.Lowered.the-variants.{Done, Refused}
-use Rattle.assemble.proofs.StmtCode.{block-code}
-use Rattle.assemble.proofs.MidLaws.{code-is}
+use Rattle.walk.proofs.StmtCode.{block-code}
+use Rattle.walk.proofs.MidLaws.{code-is}
 use Rattle.laws.proofs.Inversion.{refusal-not-made}
 use Rattle.laws.proofs.Results.{made-is}
 use Rattle.assemble.proofs.WholeLaws.{Totals, unit-stopped, unit-totals, unit-wrote}

@@ -7,20 +7,16 @@ ghost use Rattle.definitions.specs.Stage.{lowerInto, lowerTo, measure};
 ghost use Rattle.steps.specs.Running.{run};
 ghost use Rattle.steps.specs.Walked.{Accepted, ran};
 ghost use Rattle.assemble.specs.Whole.{unitCode, zeros, answer, measuring};
-
-mod arms;
-mod nodes;
-
 use instr::listings;
 use instr::numbers::wide;
 use instr::records::Record;
 use ir::ReadUnit;
 use ir::Refusal;
-use nodes::stmts;
 use steps::BlockSpan;
 use steps::Counters;
 use steps::Target;
 use steps::Walk;
+use walk::nodes::stmts;
 
 // A unit's totals, or why it is not lowered.
 pub enum Lowered {

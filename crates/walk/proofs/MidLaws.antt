@@ -26,8 +26,8 @@ use Rattle.laws.proofs.Results.{onward-assoc, onward-same}
 use Rattle.laws.proofs.Trees.{length-cases}
 use Rattle.steps.proofs.StepLaws.{fresh-same, labelled, emitted, recode, both, nothing, SameRun}
 use Rattle.steps.proofs.RunLaws.{Goes, goes-on, one-step, renamed, goes-last, goes-end, Rest, rest-next, rest-end, Turn, turn, listed}
-use Rattle.assemble.proofs.StmtCode.{ArmHere, arm-here, no-default-code, some-default, default-some, block-code}
-use Rattle.assemble.proofs.CaseLaws.{skip-step, armOf, arm-ends, arm-code-is, bodiesFrom, bodies-below, bodies-at, bodies-above}
+use Rattle.walk.proofs.StmtCode.{ArmHere, arm-here, no-default-code, some-default, default-some, block-code}
+use Rattle.walk.proofs.CaseLaws.{skip-step, armOf, arm-ends, arm-code-is, bodiesFrom, bodies-below, bodies-at, bodies-above}
 
 -- 1. Counting
 

@@ -1,5 +1,5 @@
 use Prim.Native.Nat.{ℕ, _+_, _-_, _*_, _<_}
-use Rattle.assemble.proofs.ExprCode.{call-parts, closure-here, conditional-here, field-here, free-call-here, instance-here, object-field, plain-arg, short-arg, static-call-here, struct-field}
+use Rattle.walk.proofs.ExprCode.{call-parts, closure-here, conditional-here, field-here, free-call-here, instance-here, object-field, plain-arg, short-arg, static-call-here, struct-field}
 use Rattle.definitions.specs.Read.{parseExpr}
 use Rattle.ir.proofs.Inversion.{expr-moves}
 use Rattle.ir.specs.declared.Class.the-variants.{Expression}
@@ -13,36 +13,36 @@ use mathlib.Core.Path.{_∙_, refl, sym}
 use native.Mathlib.Omega.{arith}
 use borrow.Fn.Kinds.{In}
 use borrow.Fn.PlainCycle.{Measures, is, falls, and}
-use Rattle.assemble.proofs.nodes.arg.Reads as arg
-use Rattle.assemble.proofs.nodes.arg.Kinds as arg-kinds
-use Rattle.assemble.proofs.nodes.+arg+args+assemble_expr+closure+emit_call+exprs+field+instance+node+ternary.Lts-arg as arg-lts
-use Rattle.assemble.proofs.nodes.args.Reads as args
-use Rattle.assemble.proofs.nodes.args.Kinds as args-kinds
-use Rattle.assemble.proofs.nodes.+arg+args+assemble_expr+closure+emit_call+exprs+field+instance+node+ternary.Lts-args as args-lts
-use Rattle.assemble.proofs.nodes.assemble_expr.Reads as assemble-expr
-use Rattle.assemble.proofs.nodes.assemble_expr.Kinds as assemble-expr-kinds
-use Rattle.assemble.proofs.nodes.+arg+args+assemble_expr+closure+emit_call+exprs+field+instance+node+ternary.Lts-assemble_expr as assemble-expr-lts
-use Rattle.assemble.proofs.nodes.closure.Reads as closure
-use Rattle.assemble.proofs.nodes.closure.Kinds as closure-kinds
-use Rattle.assemble.proofs.nodes.+arg+args+assemble_expr+closure+emit_call+exprs+field+instance+node+ternary.Lts-closure as closure-lts
-use Rattle.assemble.proofs.nodes.emit_call.Reads as emit-call
-use Rattle.assemble.proofs.nodes.emit_call.Kinds as emit-call-kinds
-use Rattle.assemble.proofs.nodes.+arg+args+assemble_expr+closure+emit_call+exprs+field+instance+node+ternary.Lts-emit_call as emit-call-lts
-use Rattle.assemble.proofs.nodes.exprs.Reads as exprs
-use Rattle.assemble.proofs.nodes.exprs.Kinds as exprs-kinds
-use Rattle.assemble.proofs.nodes.+arg+args+assemble_expr+closure+emit_call+exprs+field+instance+node+ternary.Lts-exprs as exprs-lts
-use Rattle.assemble.proofs.nodes.field.Reads as field
-use Rattle.assemble.proofs.nodes.field.Kinds as field-kinds
-use Rattle.assemble.proofs.nodes.+arg+args+assemble_expr+closure+emit_call+exprs+field+instance+node+ternary.Lts-field as field-lts
-use Rattle.assemble.proofs.nodes.instance.Reads as instance
-use Rattle.assemble.proofs.nodes.instance.Kinds as instance-kinds
-use Rattle.assemble.proofs.nodes.+arg+args+assemble_expr+closure+emit_call+exprs+field+instance+node+ternary.Lts-instance as instance-lts
-use Rattle.assemble.proofs.nodes.node.Reads as node
-use Rattle.assemble.proofs.nodes.node.Kinds as node-kinds
-use Rattle.assemble.proofs.nodes.+arg+args+assemble_expr+closure+emit_call+exprs+field+instance+node+ternary.Lts-node as node-lts
-use Rattle.assemble.proofs.nodes.ternary.Reads as ternary
-use Rattle.assemble.proofs.nodes.ternary.Kinds as ternary-kinds
-use Rattle.assemble.proofs.nodes.+arg+args+assemble_expr+closure+emit_call+exprs+field+instance+node+ternary.Lts-ternary as ternary-lts
+use Rattle.walk.proofs.nodes.arg.Reads as arg
+use Rattle.walk.proofs.nodes.arg.Kinds as arg-kinds
+use Rattle.walk.proofs.nodes.+arg+args+assemble_expr+closure+emit_call+exprs+field+instance+node+ternary.Lts-arg as arg-lts
+use Rattle.walk.proofs.nodes.args.Reads as args
+use Rattle.walk.proofs.nodes.args.Kinds as args-kinds
+use Rattle.walk.proofs.nodes.+arg+args+assemble_expr+closure+emit_call+exprs+field+instance+node+ternary.Lts-args as args-lts
+use Rattle.walk.proofs.nodes.assemble_expr.Reads as assemble-expr
+use Rattle.walk.proofs.nodes.assemble_expr.Kinds as assemble-expr-kinds
+use Rattle.walk.proofs.nodes.+arg+args+assemble_expr+closure+emit_call+exprs+field+instance+node+ternary.Lts-assemble_expr as assemble-expr-lts
+use Rattle.walk.proofs.nodes.closure.Reads as closure
+use Rattle.walk.proofs.nodes.closure.Kinds as closure-kinds
+use Rattle.walk.proofs.nodes.+arg+args+assemble_expr+closure+emit_call+exprs+field+instance+node+ternary.Lts-closure as closure-lts
+use Rattle.walk.proofs.nodes.emit_call.Reads as emit-call
+use Rattle.walk.proofs.nodes.emit_call.Kinds as emit-call-kinds
+use Rattle.walk.proofs.nodes.+arg+args+assemble_expr+closure+emit_call+exprs+field+instance+node+ternary.Lts-emit_call as emit-call-lts
+use Rattle.walk.proofs.nodes.exprs.Reads as exprs
+use Rattle.walk.proofs.nodes.exprs.Kinds as exprs-kinds
+use Rattle.walk.proofs.nodes.+arg+args+assemble_expr+closure+emit_call+exprs+field+instance+node+ternary.Lts-exprs as exprs-lts
+use Rattle.walk.proofs.nodes.field.Reads as field
+use Rattle.walk.proofs.nodes.field.Kinds as field-kinds
+use Rattle.walk.proofs.nodes.+arg+args+assemble_expr+closure+emit_call+exprs+field+instance+node+ternary.Lts-field as field-lts
+use Rattle.walk.proofs.nodes.instance.Reads as instance
+use Rattle.walk.proofs.nodes.instance.Kinds as instance-kinds
+use Rattle.walk.proofs.nodes.+arg+args+assemble_expr+closure+emit_call+exprs+field+instance+node+ternary.Lts-instance as instance-lts
+use Rattle.walk.proofs.nodes.node.Reads as node
+use Rattle.walk.proofs.nodes.node.Kinds as node-kinds
+use Rattle.walk.proofs.nodes.+arg+args+assemble_expr+closure+emit_call+exprs+field+instance+node+ternary.Lts-node as node-lts
+use Rattle.walk.proofs.nodes.ternary.Reads as ternary
+use Rattle.walk.proofs.nodes.ternary.Kinds as ternary-kinds
+use Rattle.walk.proofs.nodes.+arg+args+assemble_expr+closure+emit_call+exprs+field+instance+node+ternary.Lts-ternary as ternary-lts
 use Rattle.instr.proofs.numbers.u16_at.Reads as u16-at-reads
 use Rattle.instr.proofs.numbers.u32_at.Reads as u32-at-reads
 use Rattle.instr.proofs.numbers.wide.Reads as wide-reads
@@ -61,8 +61,8 @@ use Rattle.steps.proofs.records.invoke.Reads as invoke-reads
 use Rattle.steps.proofs.records.jump.Reads as jump-reads
 use Rattle.steps.proofs.records.jumps.Reads as jumps-reads
 use Rattle.steps.proofs.records.plain.Reads as plain-reads
-use Rattle.assemble.proofs.nodes.+arg+args+assemble_expr+closure+emit_call+exprs+field+instance+node+ternary.{statement}
-use Rattle.assemble.proofs.nodes.+arg+args+assemble_expr+closure+emit_call+exprs+field+instance+node+ternary.Tie.{close}
+use Rattle.walk.proofs.nodes.+arg+args+assemble_expr+closure+emit_call+exprs+field+instance+node+ternary.{statement}
+use Rattle.walk.proofs.nodes.+arg+args+assemble_expr+closure+emit_call+exprs+field+instance+node+ternary.Tie.{close}
 
 abbrev μ-arg : Measures 3 arg-kinds.ps ℕ
 μ-arg κs a = 20 * a .1 .1 .1 .0 + 4

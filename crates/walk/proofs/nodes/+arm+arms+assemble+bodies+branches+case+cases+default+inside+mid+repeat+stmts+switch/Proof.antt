@@ -1,7 +1,7 @@
 use Prim.Native.Nat.{_*_, _+_, _-_, _<_, ℕ}
-use Rattle.assemble.proofs.CaseLaws.{ArmsRest, CasesRest, arms-arm, arms-end, arms-next, arms-start, arms-turn, cases-arm, cases-end, cases-next, cases-start, cases-turn, ends-false, ends-true}
-use Rattle.assemble.proofs.MidLaws.{BodiesRest, as-inside, bodies-arm, bodies-end, bodies-next, bodies-start, cased-at, cased-one, counted-at, default-any, few-arms, inside-last, inside-mid, inside-none, is-there, mid-cased, mid-did, mid-here, mid-there}
-use Rattle.assemble.proofs.StmtCode.{a-default, arm-here, branches-here, break-code, continue-code, default-code, eval-here, init-here, nest-here, no-default-code, no-stmt, rescope-inside, switch-here, while-here}
+use Rattle.walk.proofs.CaseLaws.{ArmsRest, CasesRest, arms-arm, arms-end, arms-next, arms-start, arms-turn, cases-arm, cases-end, cases-next, cases-start, cases-turn, ends-false, ends-true}
+use Rattle.walk.proofs.MidLaws.{BodiesRest, as-inside, bodies-arm, bodies-end, bodies-next, bodies-start, cased-at, cased-one, counted-at, default-any, few-arms, inside-last, inside-mid, inside-none, is-there, mid-cased, mid-did, mid-here, mid-there}
+use Rattle.walk.proofs.StmtCode.{a-default, arm-here, branches-here, break-code, continue-code, default-code, eval-here, init-here, nest-here, no-default-code, no-stmt, rescope-inside, switch-here, while-here}
 use Rattle.definitions.specs.Code.{_then_, act, mark}
 use Rattle.definitions.specs.Lower.{jump, jumps, lowerBodies, lowerBranches, lowerCases, lowerDefault}
 use Rattle.definitions.specs.Read.{arm, parseStmt}
@@ -18,51 +18,51 @@ use mathlib.Core.Path.{_∙_, refl, sym}
 use native.Mathlib.Omega.{arith}
 use borrow.Fn.Kinds.{In}
 use borrow.Fn.PlainCycle.{Measures, is, falls, and}
-use Rattle.assemble.proofs.nodes.arm.Reads as arm
-use Rattle.assemble.proofs.nodes.arm.Kinds as arm-kinds
-use Rattle.assemble.proofs.nodes.+arm+arms+assemble+bodies+branches+case+cases+default+inside+mid+repeat+stmts+switch.Lts-arm as arm-lts
-use Rattle.assemble.proofs.nodes.arms.Reads as arms
-use Rattle.assemble.proofs.nodes.arms.Kinds as arms-kinds
-use Rattle.assemble.proofs.nodes.+arm+arms+assemble+bodies+branches+case+cases+default+inside+mid+repeat+stmts+switch.Lts-arms as arms-lts
-use Rattle.assemble.proofs.nodes.assemble.Reads as assemble
-use Rattle.assemble.proofs.nodes.assemble.Kinds as assemble-kinds
-use Rattle.assemble.proofs.nodes.+arm+arms+assemble+bodies+branches+case+cases+default+inside+mid+repeat+stmts+switch.Lts-assemble as assemble-lts
-use Rattle.assemble.proofs.nodes.bodies.Reads as bodies
-use Rattle.assemble.proofs.nodes.bodies.Kinds as bodies-kinds
-use Rattle.assemble.proofs.nodes.+arm+arms+assemble+bodies+branches+case+cases+default+inside+mid+repeat+stmts+switch.Lts-bodies as bodies-lts
-use Rattle.assemble.proofs.nodes.branches.Reads as branches
-use Rattle.assemble.proofs.nodes.branches.Kinds as branches-kinds
-use Rattle.assemble.proofs.nodes.+arm+arms+assemble+bodies+branches+case+cases+default+inside+mid+repeat+stmts+switch.Lts-branches as branches-lts
-use Rattle.assemble.proofs.nodes.case.Reads as case
-use Rattle.assemble.proofs.nodes.case.Kinds as case-kinds
-use Rattle.assemble.proofs.nodes.+arm+arms+assemble+bodies+branches+case+cases+default+inside+mid+repeat+stmts+switch.Lts-case as case-lts
-use Rattle.assemble.proofs.nodes.cases.Reads as cases
-use Rattle.assemble.proofs.nodes.cases.Kinds as cases-kinds
-use Rattle.assemble.proofs.nodes.+arm+arms+assemble+bodies+branches+case+cases+default+inside+mid+repeat+stmts+switch.Lts-cases as cases-lts
-use Rattle.assemble.proofs.nodes.default.Reads as default
-use Rattle.assemble.proofs.nodes.default.Kinds as default-kinds
-use Rattle.assemble.proofs.nodes.+arm+arms+assemble+bodies+branches+case+cases+default+inside+mid+repeat+stmts+switch.Lts-default as default-lts
-use Rattle.assemble.proofs.nodes.inside.Reads as inside
-use Rattle.assemble.proofs.nodes.inside.Kinds as inside-kinds
-use Rattle.assemble.proofs.nodes.+arm+arms+assemble+bodies+branches+case+cases+default+inside+mid+repeat+stmts+switch.Lts-inside as inside-lts
-use Rattle.assemble.proofs.nodes.mid.Reads as mid
-use Rattle.assemble.proofs.nodes.mid.Kinds as mid-kinds
-use Rattle.assemble.proofs.nodes.+arm+arms+assemble+bodies+branches+case+cases+default+inside+mid+repeat+stmts+switch.Lts-mid as mid-lts
-use Rattle.assemble.proofs.nodes.repeat.Reads as repeat
-use Rattle.assemble.proofs.nodes.repeat.Kinds as repeat-kinds
-use Rattle.assemble.proofs.nodes.+arm+arms+assemble+bodies+branches+case+cases+default+inside+mid+repeat+stmts+switch.Lts-repeat as repeat-lts
-use Rattle.assemble.proofs.nodes.stmts.Reads as stmts
-use Rattle.assemble.proofs.nodes.stmts.Kinds as stmts-kinds
-use Rattle.assemble.proofs.nodes.+arm+arms+assemble+bodies+branches+case+cases+default+inside+mid+repeat+stmts+switch.Lts-stmts as stmts-lts
-use Rattle.assemble.proofs.nodes.switch.Reads as switch
-use Rattle.assemble.proofs.nodes.switch.Kinds as switch-kinds
-use Rattle.assemble.proofs.nodes.+arm+arms+assemble+bodies+branches+case+cases+default+inside+mid+repeat+stmts+switch.Lts-switch as switch-lts
-use Rattle.assemble.proofs.arms.count_arms.Reads as count-arms-reads
-use Rattle.assemble.proofs.nodes.array.Reads as array-reads
-use Rattle.assemble.proofs.nodes.exprs.Reads as exprs-reads
-use Rattle.assemble.proofs.nodes.matchers.Reads as matchers-reads
-use Rattle.assemble.proofs.nodes.node.Reads as node-reads
-use Rattle.assemble.proofs.nodes.ret.Reads as ret-reads
+use Rattle.walk.proofs.nodes.arm.Reads as arm
+use Rattle.walk.proofs.nodes.arm.Kinds as arm-kinds
+use Rattle.walk.proofs.nodes.+arm+arms+assemble+bodies+branches+case+cases+default+inside+mid+repeat+stmts+switch.Lts-arm as arm-lts
+use Rattle.walk.proofs.nodes.arms.Reads as arms
+use Rattle.walk.proofs.nodes.arms.Kinds as arms-kinds
+use Rattle.walk.proofs.nodes.+arm+arms+assemble+bodies+branches+case+cases+default+inside+mid+repeat+stmts+switch.Lts-arms as arms-lts
+use Rattle.walk.proofs.nodes.assemble.Reads as assemble
+use Rattle.walk.proofs.nodes.assemble.Kinds as assemble-kinds
+use Rattle.walk.proofs.nodes.+arm+arms+assemble+bodies+branches+case+cases+default+inside+mid+repeat+stmts+switch.Lts-assemble as assemble-lts
+use Rattle.walk.proofs.nodes.bodies.Reads as bodies
+use Rattle.walk.proofs.nodes.bodies.Kinds as bodies-kinds
+use Rattle.walk.proofs.nodes.+arm+arms+assemble+bodies+branches+case+cases+default+inside+mid+repeat+stmts+switch.Lts-bodies as bodies-lts
+use Rattle.walk.proofs.nodes.branches.Reads as branches
+use Rattle.walk.proofs.nodes.branches.Kinds as branches-kinds
+use Rattle.walk.proofs.nodes.+arm+arms+assemble+bodies+branches+case+cases+default+inside+mid+repeat+stmts+switch.Lts-branches as branches-lts
+use Rattle.walk.proofs.nodes.case.Reads as case
+use Rattle.walk.proofs.nodes.case.Kinds as case-kinds
+use Rattle.walk.proofs.nodes.+arm+arms+assemble+bodies+branches+case+cases+default+inside+mid+repeat+stmts+switch.Lts-case as case-lts
+use Rattle.walk.proofs.nodes.cases.Reads as cases
+use Rattle.walk.proofs.nodes.cases.Kinds as cases-kinds
+use Rattle.walk.proofs.nodes.+arm+arms+assemble+bodies+branches+case+cases+default+inside+mid+repeat+stmts+switch.Lts-cases as cases-lts
+use Rattle.walk.proofs.nodes.default.Reads as default
+use Rattle.walk.proofs.nodes.default.Kinds as default-kinds
+use Rattle.walk.proofs.nodes.+arm+arms+assemble+bodies+branches+case+cases+default+inside+mid+repeat+stmts+switch.Lts-default as default-lts
+use Rattle.walk.proofs.nodes.inside.Reads as inside
+use Rattle.walk.proofs.nodes.inside.Kinds as inside-kinds
+use Rattle.walk.proofs.nodes.+arm+arms+assemble+bodies+branches+case+cases+default+inside+mid+repeat+stmts+switch.Lts-inside as inside-lts
+use Rattle.walk.proofs.nodes.mid.Reads as mid
+use Rattle.walk.proofs.nodes.mid.Kinds as mid-kinds
+use Rattle.walk.proofs.nodes.+arm+arms+assemble+bodies+branches+case+cases+default+inside+mid+repeat+stmts+switch.Lts-mid as mid-lts
+use Rattle.walk.proofs.nodes.repeat.Reads as repeat
+use Rattle.walk.proofs.nodes.repeat.Kinds as repeat-kinds
+use Rattle.walk.proofs.nodes.+arm+arms+assemble+bodies+branches+case+cases+default+inside+mid+repeat+stmts+switch.Lts-repeat as repeat-lts
+use Rattle.walk.proofs.nodes.stmts.Reads as stmts
+use Rattle.walk.proofs.nodes.stmts.Kinds as stmts-kinds
+use Rattle.walk.proofs.nodes.+arm+arms+assemble+bodies+branches+case+cases+default+inside+mid+repeat+stmts+switch.Lts-stmts as stmts-lts
+use Rattle.walk.proofs.nodes.switch.Reads as switch
+use Rattle.walk.proofs.nodes.switch.Kinds as switch-kinds
+use Rattle.walk.proofs.nodes.+arm+arms+assemble+bodies+branches+case+cases+default+inside+mid+repeat+stmts+switch.Lts-switch as switch-lts
+use Rattle.walk.proofs.arms.count_arms.Reads as count-arms-reads
+use Rattle.walk.proofs.nodes.array.Reads as array-reads
+use Rattle.walk.proofs.nodes.exprs.Reads as exprs-reads
+use Rattle.walk.proofs.nodes.matchers.Reads as matchers-reads
+use Rattle.walk.proofs.nodes.node.Reads as node-reads
+use Rattle.walk.proofs.nodes.ret.Reads as ret-reads
 use Rattle.instr.proofs.numbers.u32_at.Reads as u32-at-reads
 use Rattle.instr.proofs.numbers.wide.Reads as wide-reads
 use Rattle.steps.proofs.labels.labels_of.Reads as labels-of-reads
@@ -85,8 +85,8 @@ use Rattle.steps.proofs.switches.is_mid.Reads as is-mid-reads
 use Rattle.steps.proofs.switches.is_same.Reads as is-same-reads
 use Rattle.steps.proofs.switches.mark_if.Reads as mark-if-reads
 use Rattle.steps.proofs.switches.open_group.Reads as open-group-reads
-use Rattle.assemble.proofs.nodes.+arm+arms+assemble+bodies+branches+case+cases+default+inside+mid+repeat+stmts+switch.{statement}
-use Rattle.assemble.proofs.nodes.+arm+arms+assemble+bodies+branches+case+cases+default+inside+mid+repeat+stmts+switch.Tie.{close}
+use Rattle.walk.proofs.nodes.+arm+arms+assemble+bodies+branches+case+cases+default+inside+mid+repeat+stmts+switch.{statement}
+use Rattle.walk.proofs.nodes.+arm+arms+assemble+bodies+branches+case+cases+default+inside+mid+repeat+stmts+switch.Tie.{close}
 
 abbrev μ-arm : Measures 3 arm-kinds.ps ℕ
 μ-arm κs a = 20 * a .1 .1 .1 .0 + 5

@@ -24,8 +24,8 @@ use Rattle.steps.specs.declared.Walk.{Walk}
 use Rattle.laws.proofs.Results.{onward-made}
 use Rattle.steps.proofs.StepLaws.{labelled, emitted, recode, SameRun, same-assoc, same-right, same-on, same-done}
 use Rattle.steps.proofs.RunLaws.{Goes, goes-same, goes-on, one-step, fresh-step, renamed, goes-last, goes-end, Rest, rest-start, rest-next, rest-end, Turn, turn}
-use Rattle.assemble.proofs.StmtCode.{ArmHere, arm-here}
-use Rattle.assemble.proofs.ExprCode.{child}
+use Rattle.walk.proofs.StmtCode.{ArmHere, arm-here}
+use Rattle.walk.proofs.ExprCode.{child}
 
 -- 1. Steps
 

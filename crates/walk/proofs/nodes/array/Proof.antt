@@ -1,12 +1,12 @@
 use Rattle.steps.proofs.StepLaws.{recode, both, emitted, nothing}
-use Rattle.assemble.proofs.StmtCode.{array-run, array-here, no-array, an-array}
+use Rattle.walk.proofs.StmtCode.{array-run, array-here, no-array, an-array}
 use Rattle.steps.proofs.RunLaws.{stmt-placed, run-some, run-none}
 use Rattle.steps.specs.Walked.{spanOf}
 use mathlib.Core.Path.{refl, _∙_}
 use native.Mathlib.Omega.{arith}
 use borrow.Author.Needs.{needs}
-use Rattle.assemble.proofs.nodes.array.Statement.{statement}
-use Rattle.assemble.proofs.nodes.array.Tie as tie
+use Rattle.walk.proofs.nodes.array.Statement.{statement}
+use Rattle.walk.proofs.nodes.array.Tie as tie
 
 end-of-requires : tie.Need-end-of-requires
 end-of-requires c κs = omega (arith, stmt-placed _ _ _ _ ((c .before .before .before .pre .0) .2) .0, c .before .before .before .pre .1 .0)

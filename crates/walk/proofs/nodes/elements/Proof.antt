@@ -1,4 +1,4 @@
-use Rattle.assemble.proofs.CaseLaws.{ElemsRest, elems-start, elems-turn, elems-next, elems-end}
+use Rattle.walk.proofs.CaseLaws.{ElemsRest, elems-start, elems-turn, elems-next, elems-end}
 use Rattle.steps.proofs.RunLaws.{expr-placed}
 use Rattle.steps.specs.Walked.{codeOf, exprsFrom}
 use Rattle.definitions.specs.Lower.{lowerElements}
@@ -6,8 +6,8 @@ use Rattle.definitions.specs.Tree.{exprsOf}
 use Prim.Native.Nat.{_-_}
 use borrow.Author.Needs.{needs}
 use native.Mathlib.Omega.{arith}
-use Rattle.assemble.proofs.nodes.elements.Statement.{statement}
-use Rattle.assemble.proofs.nodes.elements.Tie as tie
+use Rattle.walk.proofs.nodes.elements.Statement.{statement}
+use Rattle.walk.proofs.nodes.elements.Tie as tie
 
 abbrev Inv-loop : tie.InvT-loop
 Inv-loop s at end depth span local typ out₀ marks₀ i₀ v₀ k₀ out marks i v k = ElemsRest depth s end local typ (codeOf (λ xs. lowerElements (exprsOf xs) local typ 0) (exprsFrom depth s end at)) v₀ out₀ marks₀ k i v out marks

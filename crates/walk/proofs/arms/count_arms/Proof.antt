@@ -1,11 +1,11 @@
-use Rattle.assemble.proofs.MidLaws.{ArmsCount, arms-count-start, arms-count-arm, arms-count-next, arms-count-end}
+use Rattle.walk.proofs.MidLaws.{ArmsCount, arms-count-start, arms-count-arm, arms-count-next, arms-count-end}
 use mathlib.Core.Path.{refl}
 use Prim.Native.Nat.{_-_}
 use native.Mathlib.Omega.{arith}
-use Rattle.assemble.proofs.arms.count_arms.Statement.{statement}
-use Rattle.assemble.proofs.arms.count_arms.Tie as tie
-use Rattle.assemble.proofs.arms.count_arms.Reads as reads
-use Rattle.assemble.proofs.arms.count_arms.Lts as lts
+use Rattle.walk.proofs.arms.count_arms.Statement.{statement}
+use Rattle.walk.proofs.arms.count_arms.Tie as tie
+use Rattle.walk.proofs.arms.count_arms.Reads as reads
+use Rattle.walk.proofs.arms.count_arms.Lts as lts
 use Rattle.steps.proofs.places.end_of.Reads as end-of-reads
 
 abbrev Inv-loop : tie.InvT-loop

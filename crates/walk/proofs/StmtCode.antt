@@ -21,7 +21,7 @@ use Rattle.ir.proofs.Inversion.{stmt-at, run-ok, give-ok}
 use Rattle.ir.proofs.StmtPlaces.{eval-at, block-at, while-at, break-at, continue-at, branches-at, switch-at, init-array-at, init-default-at, returned-at, arm-at, no-other}
 use Rattle.steps.specs.Walked.{Accepted, Did, Ended, DefaultHere, Cased, insideCode, midCode, defaultAnswer, exprsFrom, listOf, defaultFrom, armsFrom, casesFrom, codeOf, exprCode, stmtCode, fillCode, armCode}
 use Rattle.laws.proofs.Arms.{Nones}
-use Rattle.assemble.proofs.ExprCode.{Here, here, child, run-at}
+use Rattle.walk.proofs.ExprCode.{Here, here, child, run-at}
 use Rattle.laws.proofs.Trees.{length-exprs}
 use Rattle.steps.proofs.StepLaws.{recode, SameRun, same-on, same-code}
 use Rattle.steps.proofs.RunLaws.{single-run, single-code}

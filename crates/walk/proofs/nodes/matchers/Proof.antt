@@ -1,4 +1,4 @@
-use Rattle.assemble.proofs.CaseLaws.{HeadsRest, heads-start, heads-arm, heads-next, heads-end}
+use Rattle.walk.proofs.CaseLaws.{HeadsRest, heads-start, heads-arm, heads-next, heads-end}
 use Rattle.steps.specs.Walked.{codeOf, armsFrom}
 use Rattle.definitions.specs.Lower.{lowerMatchers}
 use Rattle.definitions.specs.Tree.{casesOf}
@@ -6,8 +6,8 @@ use mathlib.Core.Path.{refl}
 use Prim.Native.Nat.{_+_, _-_, _<_}
 use borrow.Author.Needs.{needs}
 use native.Mathlib.Omega.{arith}
-use Rattle.assemble.proofs.nodes.matchers.Statement.{statement}
-use Rattle.assemble.proofs.nodes.matchers.Tie as tie
+use Rattle.walk.proofs.nodes.matchers.Statement.{statement}
+use Rattle.walk.proofs.nodes.matchers.Tie as tie
 
 abbrev Inv-loop : tie.InvT-loop
 Inv-loop s at end depth span site first label out₀ marks₀ i₀ v₀ next₀ body₀ out marks i v next body = HeadsRest depth s end site (codeOf (λ cs. lowerMatchers (casesOf cs) site first label) (armsFrom depth s end at)) v₀ out₀ marks₀ next body i v out marks

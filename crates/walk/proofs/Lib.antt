@@ -1,0 +1,4 @@
+pub mod ExprCode
+pub mod StmtCode
+pub mod CaseLaws
+pub mod MidLaws
