@@ -1,19 +1,20 @@
 -- The whole of `lower`: from what the reader, the dry walk and the real one ensure. Assumes nothing.
-use Prim.Native.Nat.{ℕ, _≤_, _<_}
+use Prim.Native.Nat.{ℕ, _-_, _/_, _≤_, _<_}
 use mathlib.Core.Path.{_≡_, refl, sym, ap, _∙_}
+use mathlib.Core.Bool.{Bool, true, false}
 use mathlib.Core.List.{List, [], _∷_, _++_, append-assoc}
 use native.Mathlib.Omega.{arith}
 use lib.Dec.{leb}
 use lib.ListN.{length, getD, take, drop, length-append}
 use lib.Seq.{length-take-le, drop-at}
-use borrow.Author.Tests.{le-leb, lt-leb}
+use borrow.Author.Tests.{le-leb, lt-leb, leb-true}
 use borrow.Rule.Slice.PartMut.{putMid, put-same}
 use Rattle.definitions.specs.Answer.{Answer, ok, refused, Result, made, refusal, onward, checked}
 use Rattle.definitions.specs.Bytes.{bytes}
-use Rattle.definitions.specs.Instr.{Instr}
+use Rattle.definitions.specs.Instr.{Instr, recordLength}
 use Rattle.definitions.specs.Tree.{Script}
 use Rattle.definitions.specs.Read.{filling, parseStmt, parseUnit}
-use Rattle.definitions.specs.Code.{Code, State}
+use Rattle.definitions.specs.Code.{Code, State, start, labelLimit}
 use Rattle.definitions.specs.Lower.{outside}
 use Rattle.definitions.specs.Lower as Lower
 use Rattle.definitions.specs.Listing.{frontLength, listingLength, recordsBytes, listingBytes, recordLimit}
@@ -28,17 +29,19 @@ use Rattle.ir.specs.declared.Class.the-variants.{Statement}
 use Rattle.ir.proofs.UnitPlaces.{unit-at}
 use Rattle.steps.specs.Running.{Cells, run}
 use Rattle.steps.specs.Walked.{Accepted, codeOf, fillCode, ran, targetOf, spanOf, Did}
-use Rattle.assemble.specs.Whole.{unitCode, zeros, answer, measuring}
+use Rattle.scan.specs.Scanned.{Fits}
+use Rattle.assemble.specs.Whole.{unitCode, zeros, Lowers, answer, measuring}
 use Rattle.assemble.specs.declared
 use Rattle.steps.specs.declared.Counters.{Counters}
 use Rattle.steps.specs.declared.Target.the-variants.{Nowhere}
 use Rattle.steps.specs.declared.Walk.{Walk}
 use Rattle.steps.specs.declared.Walk.the-variants.{Going, Stopped}
+use Rattle.assemble.specs.declared.Lowered.{Lowered}
 use Rattle.assemble.specs.declared.Lowered.the-variants.{Done, Refused}
 use Rattle.walk.proofs.StmtCode.{block-code}
 use Rattle.walk.proofs.MidLaws.{code-is}
 use Rattle.laws.proofs.Inversion.{refusal-not-made}
-use Rattle.laws.proofs.Results.{made-is}
+use Rattle.laws.proofs.Results.{made-is, onward-is}
 use Rattle.assemble.proofs.WholeLaws.{Totals, unit-stopped, unit-totals, unit-wrote}
 
 -- 1. What the reader says of a unit
@@ -165,12 +168,69 @@ module _ (s : List ℕ) (acc : Accepted (parseUnit s)) where
   unfolding ran
   runs-to z k o₂ m₂ o₃ m₃ e w = ap (λ c. run c (zeros o₃ m₃)) (sym same-code) ∙ sym w ∙ ap (λ y. ran y o₂ m₂) e
 
+-- nothing refuses the unit, and the buffers have room: taken apart, and put together
+passed : {A : Type 0} (b : Bool) (n p x : ℕ) (r : Result A) {a : A} → checked b n p x r ≡ made a → (b ≡ true) × (r ≡ made a)
+unfolding checked
+passed true n p x r e = (refl, e)
+passed false n p x r e = refusal-not-made e
+
+lowers-is : (s : List ℕ) (a b : ℕ) (t : State) → lowerInto s a b ≡ made t → (labelled s ≡ made t) × (listingLength (length (t .instrs)) ≤ a) × (length (t .marks) ≤ b)
+unfolding lowerInto
+lowers-is s a b t e =
+    let k = onward-is (labelled s) (room a b) e in
+    let p = passed (leb (listingLength (length (k .0 .instrs))) a) 20 0 0 _ (k .2) in
+    let q = passed (leb (length (k .0 .marks)) b) 21 0 0 _ (p .1) in
+    rw (← (made-is (q .1))) (k .1, leb-true _ _ (p .0), leb-true _ _ (q .0))
+
+lowers-of : (s : List ℕ) (a b : ℕ) (t : State) → labelled s ≡ made t → listingLength (length (t .instrs)) ≤ a → length (t .marks) ≤ b → lowerInto s a b ≡ made t
+unfolding checked
+lowers-of s a b t e h l = room-is s a b t e ∙ rw (le-leb (listingLength (length (t .instrs))) a h, le-leb (length (t .marks)) b l)
+
+-- such a unit was read
+pub lowers-accepted : (s : List ℕ) (a b : ℕ) → Lowers s a b → Accepted (parseUnit s)
+unfolding lowered
+lowers-accepted s a b f = go (parseUnit s) refl (lowers-is s a b (f .0) (f .1) .0)
+  where
+    go : (x : Answer Script) → parseUnit s ≡ x → lowered x ≡ made (f .0) → Accepted (parseUnit s)
+    go (ok u n) i e = (u, n, i)
+    go (refused n p x) i e = refusal-not-made e
+
+-- what a scan found to fit so much room is such a unit
+pub fits-lowers : (s : List ℕ) (a b records labels : ℕ) → frontLength ≤ a → records ≡ (a - frontLength) / recordLength → labels ≤ b → labels ≤ 65536 → Fits s records labels → Lowers s a b
+unfolding lowered labelLimit
+fits-lowers s a b records labels h e l m f =
+    let r = f .tame .runs start (omega (arith, m)) in
+    (r .0, lowers-of s a b (r .0) (rw (f .reads, lowered) (r .1)) (omega (arith, r .2, h, e)) (omega (arith, r .3, l)))
+
+-- the walk over a unit that is lowered into these buffers
+module _ (s o m : List ℕ) (f : Lowers s (length o) (length m)) (z : Walk) (o₂ m₂ : List ℕ) (w : ran z o₂ m₂ ≡ run (unitCode s) (zeros o m)) where
+  acc : Accepted (parseUnit s)
+  acc = lowers-accepted s (length o) (length m) f
+
+  pub fill-never : {X : Type 0} (n : Refusal) → z ≡ Stopped n → X
+  fill-never n q = refusal-not-made (sym (sym (lowers-is s (length o) (length m) (f .0) (f .1) .0) ∙ halted-is s acc z n o₂ m₂ o m q w))
+
+  pub fill-done : (d : Counters) (o₃ : List ℕ) → z ≡ Going d → o₃ ≡ frontWritten (d .count) o₂ → answer (Done d) o₃ m₂ ≡ lowerTo (lowerInto s (length o) (length m)) o m
+  fill-done d o₃ q e =
+      let x = runs-to s acc z d o₂ m₂ o m q w in
+      let t = unit-totals s (acc .0) (acc .1) (acc .2) o m (cellsOf s acc d o₂ m₂) x in
+      let k = lowers-is s (length o) (length m) (f .0) (f .1) in
+      let u : f .0 ≡ t .state = made-is (sym (k .0) ∙ t .whole) in
+      let g : listingLength (length (t .state .instrs)) ≤ length o = rw u at (k .1) in
+      let y = unit-wrote s (acc .0) (acc .1) (acc .2) o m (cellsOf s acc d o₂ m₂) x t g (rw u at (k .2)) in
+      let n : o₃ ≡ over (listingBytes (t .state .instrs)) o = e ∙ front-over (d .count) (t .state .instrs) o o₂ (t .count) (t .few) g (y .out) in
+      done-answer d (t .state) (lowerInto s (length o) (length m)) o m o₃ m₂ (rw u at (f .1)) (t .offset) (t .labels) (t .count) n (y .marks ∙ sym (over-is (t .state .marks) m _ refl))
+
 module _ (s o m o₁ m₁ : List ℕ) (r : Walk) (acc : Accepted (parseUnit s)) (dry : (ran r [] [] ≡ run (unitCode s) (zeros [] [])) × (o₁ ≡ o) × (m₁ ≡ m)) where
   abbrev theAnswer : Result State
   theAnswer = lowerInto s (length o) (length m)
 
   pub answer-stopped : (n : Refusal) → r ≡ Stopped n → answer (Refused n) o₁ m₁ ≡ lowerTo theAnswer o m
   answer-stopped n e = rw (dry .1, dry .2) (stopped-answer n theAnswer o m (refused-is s (length o) (length m) _ _ _ (halted-is s acc r n [] [] [] [] e (dry .0))))
+
+  -- the buffers are as they were before the dry walk
+  pub answer-kept : (a : Lowered) (o₂ m₂ : List ℕ) → answer a o₂ m₂ ≡ lowerTo (lowerInto s (length o₁) (length m₁)) o₁ m₁ → answer a o₂ m₂ ≡ lowerTo theAnswer o m
+  answer-kept a o₂ m₂ e = rw (dry .1, dry .2) at e
 
   module _ (k : Counters) (e : r ≡ Going k) where
     totals : Totals s (acc .0) (acc .1) (acc .2) (cellsOf s acc k [] [])
@@ -191,25 +251,11 @@ module _ (s o m o₁ m₁ : List ℕ) (r : Walk) (acc : Accepted (parseUnit s)) 
         let f : length m < length (t .state .marks) = omega (arith, l, ap length (dry .2), t .labels) in
         rw (dry .1, dry .2) (stopped-answer _ theAnswer o m (room-is s (length o) (length m) (t .state) (t .whole) ∙ rw (le-leb (listingLength (length (t .state .instrs))) (length o) g, lt-leb (length (t .state .marks)) (length m) f)))
 
-    pub answer-never : {X : Type 0} (z : Walk) (n : Refusal) (o₂ m₂ : List ℕ) → z ≡ Stopped n → ran z o₂ m₂ ≡ run (unitCode s) (zeros o₁ m₁) → X
-    answer-never z n o₂ m₂ q w = refusal-not-made (sym (sym (totals .whole) ∙ halted-is s acc z n o₂ m₂ o₁ m₁ q w))
-
-    pub answer-done : (z : Walk) (d : Counters) (o₂ m₂ o₃ : List ℕ) → z ≡ Going d → listingLength (k .count) ≤ length o₁ → k .labels ≤ length m₁ →
-        ran z o₂ m₂ ≡ run (unitCode s) (zeros o₁ m₁) → o₃ ≡ frontWritten (d .count) o₂ → answer (Done d) o₃ m₂ ≡ lowerTo theAnswer o m
-    unfolding checked
-    answer-done z d o₂ m₂ o₃ q h l w f =
-        let x = runs-to s acc z d o₂ m₂ o m q (rw (dry .1, dry .2) at w) in
-        let j = totals in
-        let t = unit-totals s (acc .0) (acc .1) (acc .2) o m (cellsOf s acc d o₂ m₂) x in
-        let u : j .state ≡ t .state = made-is (sym (j .walks-to) ∙ t .walks-to) in
-        let c : k .count ≡ length (t .state .instrs) = j .count ∙ ap (λ (y : State). length (y .instrs)) u in
-        let b : k .labels ≡ length (t .state .marks) = j .labels ∙ ap (λ (y : State). length (y .marks)) u in
-        let g : listingLength (length (t .state .instrs)) ≤ length o = omega (arith, h, ap length (dry .1), c) in
-        let v : length (t .state .marks) ≤ length m = omega (arith, l, ap length (dry .2), b) in
-        let y = unit-wrote s (acc .0) (acc .1) (acc .2) o m (cellsOf s acc d o₂ m₂) x t g v in
-        let n : o₃ ≡ over (listingBytes (t .state .instrs)) o = f ∙ front-over (d .count) (t .state .instrs) o o₂ (t .count) (t .few) g (y .out) in
-        let p : theAnswer ≡ made (t .state) = room-is s (length o) (length m) (t .state) (t .whole) ∙ rw (le-leb (listingLength (length (t .state .instrs))) (length o) g, le-leb (length (t .state .marks)) (length m) v) in
-        done-answer d (t .state) theAnswer o m o₃ m₂ p (t .offset) (t .labels) (t .count) n (y .marks ∙ sym (over-is (t .state .marks) m _ refl))
+    -- with neither refusal
+    pub dry-lowers : listingLength (k .count) ≤ length o₁ → k .labels ≤ length m₁ → Lowers s (length o₁) (length m₁)
+    dry-lowers h l =
+        let t = totals in
+        (t .state, lowers-of s (length o₁) (length m₁) (t .state) (t .whole) (omega (arith, h, t .count)) (omega (arith, l, t .labels)))
 
 -- 6. What `measure` answers
 

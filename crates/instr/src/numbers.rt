@@ -57,7 +57,7 @@ pub fn u16_inside(s: &[u8], at: usize) -> u16
     (wide(s[at]) * 256 + wide(s[at + 1])) as u16
 }
 
-fn u32_inside(s: &[u8], at: usize) -> usize
+pub fn u32_inside(s: &[u8], at: usize) -> usize
     requires { ⌜ at + 4 ≤ length (now s) ⌝ }
     ensures { λ r. ⌜ (r ≡ number 4 (now (s .entry)) at) × (r < 2 ^ 32) ⌝ }
 {

@@ -70,7 +70,7 @@ pub enum Arg {
 }
 
 // The front: version 1, the length of what follows, a return byte of 0 or 1; and the whole is not too long.
-fn front_good(unit: &[u8]) -> bool
+pub fn front_good(unit: &[u8]) -> bool
     ensures { λ r. ⌜ r ≡ frontGood (now (unit .entry)) ⌝ }
 {
     let n = unit.len();

@@ -159,11 +159,3 @@ fn unit_of(block: &[u8]) -> Unit {
     bytes.extend_from_slice(block);
     Unit::from_bytes(bytes)
 }
-
-/// The same unit with a statement of no known kind behind its last: it is read to there and refused, and nothing is walked.
-pub fn read_only(unit: &Unit) -> Unit {
-    const UNKNOWN: [u8; 5] = [0, 0, 0, 1, 0xFF];
-    let mut block = unit.bytes()[FRONT..].to_vec();
-    block.extend_from_slice(&UNKNOWN);
-    unit_of(&block)
-}

@@ -1,0 +1,10 @@
+pub mod TameLaws
+pub mod FieldLaws
+pub mod ExprLaws
+pub mod RunLaws
+pub mod Prefix
+pub mod StmtLaws
+pub mod StmtReads
+pub mod StmtLoops
+pub mod StmtFound
+pub mod UnitLaws
