@@ -1,4 +1,4 @@
-// The lowering walk: it reads the bytes of a unit again, and writes records and label marks where they fit.
+// Lowering: from the bytes of a unit to its labelled listing and its label table, by the walk of `walk`; and what a unit takes.
 ghost use mathlib.Core.Path.{_≡_};
 ghost use mathlib.Core.Bool.{true};
 ghost use mathlib.Core.List.{[]};

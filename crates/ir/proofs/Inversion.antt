@@ -72,7 +72,7 @@ marks-ok s nd end k f at l e =
     let m = marks-is s nd end k at l (h .2) in
     (h .0, rw (m .next-is) at m, rw (m .next-is) at (h .3))
 
-bool-width : (byte : ℕ) → byte ≡ 15 → getD constWidths byte 0 ≡ 1
+pub bool-width : (byte : ℕ) → byte ≡ 15 → getD constWidths byte 0 ≡ 1
 unfolding constWidths
 bool-width byte h = rw h
 

@@ -17,6 +17,7 @@ use Rattle.definitions.specs.Read.{Parser, _>>=_, give, span, head, ended, fill
 use Rattle.definitions.specs.Code.{Code, label}
 use Rattle.definitions.specs.Lower.{weakToRef, lowerField, emitInvoke, emitCall, requireFlags, lowerExpr, lowerExprs}
 use Rattle.laws.proofs.Trees.{length-exprs}
+use Rattle.steps.proofs.RunLaws.{marks-long}
 use Rattle.steps.specs.Walked.{marksFrom, calleeAt}
 use Rattle.scan.specs.Scanned.{Tame, Each, Or0, ConstAt, ExprAt, BodyAt, RunAt, ArgsAt, CallAt, allMarks}
 use Rattle.scan.proofs.TameLaws.{tame-more, tame-done, tame-emit, tame-mark, tame-then, tame-label, tame-require}
@@ -103,11 +104,6 @@ callee-in s site stop p h f m =
 arguments-in : (s : List ℕ) (child : ℕ → Parser Expr) (site stop params at : ℕ) (xs : List Expr) → run s stop child at ≡ ok xs stop → length xs ≤ params → arguments s child site stop params at ≡ ok (exprsOf xs) stop
 unfolding arguments ended _>>=_
 arguments-in s child site stop params at xs e h = step _ _ e (step _ _ (passed _ _ (eq-eqb stop stop refl)) (passed _ _ (le-leb (length xs) params h)))
-
-marks-long : (s : List ℕ) (p n : ℕ) → length (marksFrom s p n) ≡ n
-unfolding marksFrom
-marks-long s p zero = refl
-marks-long s p (suc n) = ap suc (marks-long s (p + 1) n)
 
 params-are : (s : List ℕ) (p a n : ℕ) → a ≡ p + 12 → n ≡ getD s (p + 11) 0 → calleeAt s p .params ≡ marksFrom s a n
 unfolding calleeAt

@@ -13,7 +13,7 @@ use Rattle.definitions.specs.Answer.{Answer, ok, bind}
 use Rattle.definitions.specs.Bytes.{number}
 use Rattle.definitions.specs.Tag.{constWidths}
 use Rattle.definitions.specs.Read.{Parser, _>>=_, give, unsigned, byteBelow, markBytes, room, span, head, ended, node, payload, asConst}
-use Rattle.ir.proofs.Inversion.{one-byte}
+use Rattle.ir.proofs.Inversion.{one-byte, bool-width}
 use Rattle.steps.specs.Walked.{marksFrom}
 use Rattle.scan.specs.Scanned.{Or0, ConstAt, allMarks}
 
@@ -74,10 +74,6 @@ pub marks-more : (s : List ℕ) (at n : ℕ) → allMarks s at n → getD s (at 
 marks-more s at n m h k l = elim (decLt k n) [ yes i ↦ m k i | no i ↦ let e : n ≡ k = omega arith in rw e at h ]
 
 -- a constant
-bool-width : (byte : ℕ) → byte ≡ 15 → getD constWidths byte 0 ≡ 1
-unfolding constWidths
-bool-width byte h = rw h
-
 pub payload-in : (s : List ℕ) (nd end byte at next : ℕ) → next ≡ at + getD constWidths byte 0 → next ≤ end → (byte ≡ 15 → getD s at 0 < 2)
     → payload s nd end byte at ≡ ok (number (getD constWidths byte 0) s at) next
 unfolding payload

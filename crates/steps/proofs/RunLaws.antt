@@ -204,10 +204,10 @@ pub record ArgsRest (d : ℕ) (s : List ℕ) (end site : ℕ) (code : Code) (w :
   pub room : p + left ≤ i
   pub enough : length (listOf (exprsFrom d s end i)) ≤ left
 
-long : (s : List ℕ) (p n : ℕ) → length (marksFrom s p n) ≡ n
+pub marks-long : (s : List ℕ) (p n : ℕ) → length (marksFrom s p n) ≡ n
 unfolding marksFrom
-long s p zero = refl
-long s p (suc n) = ap suc (long s (p + 1) n)
+marks-long s p zero = refl
+marks-long s p (suc n) = ap suc (marks-long s (p + 1) n)
 
 args-cons : (s : List ℕ) (site p left : ℕ) (x : Expr) (xs : List Expr) → 0 < left →
     lowerArgs (exprsOf (x ∷ xs)) site (marksFrom s p left) ≡ lowerArg site (getD s p 0) (lowerExpr x) then lowerArgs (exprsOf xs) site (marksFrom s (p + 1) (left - 1))
@@ -245,7 +245,7 @@ module _ {d : ℕ} {s : List ℕ} {end site : ℕ} {code : Code} {w : Walk} {o m
 pub args-end : {d : ℕ} {s : List ℕ} {end site : ℕ} {code : Code} {w : Walk} {o m : List ℕ} {p left i : ℕ} {v : Walk} {o₁ m₁ : List ℕ} {z : Walk} {o₂ : List ℕ} → ArgsRest d s end site code w o m p left i v o₁ m₁ → end ≤ i →
     Nops left v o₁ z o₂ → Did code w o m z o₂ m₁
 unfolding lowerExpr exprsOf
-args-end {d} {s} {end} {p = p} {left = left} {m₁ = m₁} a h n = goes-last (rest-end _ _ _ _ _ _ _ _ _ _ _ (expr-moves d s end) h (a .rest)) (n (marksFrom s p left) (long s p left) .did m₁)
+args-end {d} {s} {end} {p = p} {left = left} {m₁ = m₁} a h n = goes-last (rest-end _ _ _ _ _ _ _ _ _ _ _ (expr-moves d s end) h (a .rest)) (n (marksFrom s p left) (marks-long s p left) .did m₁)
 
 -- what a call asks of its arguments
 
