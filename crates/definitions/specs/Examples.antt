@@ -6,7 +6,7 @@ use lib.ListN.{length}
 use lib.IntN.{ℤ, pos, negℤ}
 use Rattle.definitions.specs.Answer.{Result, made, refusal, bind, onward, checked}
 use Rattle.definitions.specs.Bytes.{number, bytes}
-use Rattle.definitions.specs.Tag.{Nop, Null, I32One, I32Zero, I8Const, I32Const, StringConst, TrueConst, FalseConst, Assign, Local, Param, Switch, SwitchLabel, SwitchDefault, Jump, JumpIfFalse, Skip, InvokeStatic, InvokeVirtual, ParamEnd, Return, Context, This, WeakRefToRef, AsRef, Deref, sizes, tagSize, emitted, rows, rowOf, defaultTags, constTags, constTag, constWidths, intrinsics, intrinsicOf}
+use Rattle.definitions.specs.Tag.{Nop, Null, I32One, I32Zero, I8Const, I32Const, StringConst, TrueConst, FalseConst, Assign, Local, Param, Switch, SwitchLabel, SwitchDefault, Jump, JumpIfFalse, Skip, InvokeStatic, InvokeVirtual, ParamEnd, Return, Context, This, WeakRefToRef, AsRef, Deref, ArrayResize, ArrayElement, U64Const, I32ToEnum, ArrayClear, StructField, ObjectField, Conditional, New, Construct, DynamicCast, sizes, tagSize, emitted, rows, rowOf, defaultTags, constTags, constTag, constWidths, intrinsics, intrinsicOf}
 use Rattle.definitions.specs.Instr.{size, recordBytes, recordAt, unused0, goodRecord}
 use Rattle.definitions.specs.Tree.{exprsOf, blockOf, branchesOf, casesOf, lengthExprs, lengthCases, isPresent, placeOf}
 use Rattle.definitions.specs.Read.{_>>=_, give, unknownKind, unsigned, byteBelow, markBytes, room, span, items, filling, run, head, ended, node, pick, asNop, payload, asConst, asNull, asNewInstance, asConstruct, asAssign, asField, asIndex, asConditional, asDynCast, asLocal, asIntrinsic, callee, arguments, asFreeCall, asStaticCall, asInstanceCall, asClosureCall, exprKinds, exprBody, parseExpr, asExpr, asBlock, asWhile, arm, blockIf, asBranches, asSwitch, asInitArray, asInitDefault, asBreak, asContinue, returnIf, asReturn, stmtKinds, stmtBody, parseStmt, frontGood, parseUnit}
@@ -24,16 +24,24 @@ pub data Question : Type 0 where
   stageOf : (unit : List ℕ) → Question
   textOf : (unit : List ℕ) → Question
   labelledOf : (unit : List ℕ) → Question
+  -- which node emitted each record of its resolved listing
+  originsOf : (unit : List ℕ) → Question
   -- whether a unit's listing and label table fit so many bytes and words
   roomOf : (unit : List ℕ) → (bytes words : ℕ) → Question
   -- a listing and a label table resolved into so many bytes; the viewer's record n
   resolveOf : (listing marks : List ℕ) → (space : ℕ) → Question
   viewOf : (listing : List ℕ) → (n : ℕ) → Question
 
+-- a record's tag and its node
+pub record Origin : Type 0 where
+  pub tag : ℕ
+  pub node : ℕ
+
 pub data Reply : Type 0 where
   prints : (count total : ℕ) → List Line → Reply
   says : List ℕ → Reply
   labels : (count total : ℕ) (marks : List ℕ) → List Line → Reply
+  origins : List Origin → Reply
   fits : (count labels : ℕ) → Reply
   part : List ℕ → Reply
   refuses : (number place extra : ℕ) → Reply
@@ -50,6 +58,7 @@ pub answer : Question → Reply
 answer (stageOf s) = replyPrinted (printed (stage s))
 answer (textOf s) = says (text (printed (stage s)))
 answer (labelledOf s) = replyOf (λ l. labels (length (l .instrs)) (l .offset) (l .marks) (linesFrom pos 0 (l .instrs))) (labelled s)
+answer (originsOf s) = replyOf (λ is. origins (map (λ i. record { tag = i .tag; node = i .node }) is)) (stage s)
 answer (roomOf s b w) = replyOf (λ l. fits (length (l .instrs)) (length (l .marks))) (lowerInto s b w)
 answer (resolveOf s m b) = replyPrinted (printed (resolve s m b))
 answer (viewOf s n) = replyOf part (view s n)
@@ -82,6 +91,10 @@ both o t d e = record { start = o; tag = t; small = 0; first = d; second = e; li
 
 abbrev invokes : (start tag : ℕ) → ℤ → (line flags value : ℕ) → Line
 invokes o t d l f v = record { start = o; tag = t; small = 0; first = d; second = on 0; line = l; flags = f; value = v }
+
+-- a record with this tag, emitted by the node at `at`
+abbrev by : (tag at : ℕ) → Origin
+by t at = record { tag = t; node = at }
 
 -- units that are too long to write out
 runOf : List ℕ → List ℕ
@@ -120,8 +133,8 @@ instanceCallOf : (params : ℕ) → (receiver args : List ℕ) → List ℕ
 instanceCallOf n e args = nodeOf 15 (0 ∷ (e ++ callOf n args))
 
 -- a listing of one record
-listingOf : (tag first value : ℕ) → List ℕ
-listingOf t l v = listingBytes (record { tag = t; small = 0; first = l; second = 0; line = 0; flags = 0; value = v } ∷ [])
+listingOf : (tag first value node : ℕ) → List ℕ
+listingOf t l v at = listingBytes (record { tag = t; small = 0; first = l; second = 0; line = 0; flags = 0; value = v; node = at } ∷ [])
 
 -- 3. The table
 
@@ -225,6 +238,52 @@ table =
     -- AsRef of a Deref is not flagged
     ∷ example (stageOf (bytes 74 0x010000004500000000400000003C01000000370D0000000100000002000300010000000025000000210C1C00010000000700000015000000110C1D000100000007000000050000000101)) (prints 5 35 (
     invokes 0 InvokeVirtual (on 35) 3 0 2 ∷ values 15 AsRef 0 7 ∷ values 24 Deref 0 7 ∷ values 33 Nop 0 0 ∷ values 34 ParamEnd 0 0 ∷ []))
+    -- the node of every record: the one whose own rule makes it, never a child or a holder
+    -- (a): both jumps of the While, the Jump of the Break inside it
+    ∷ example (originsOf (bytes 31 0x010000001A0000000015000000110300000003020F00000000050000000108)) (origins (
+    by JumpIfFalse 10 ∷ by FalseConst 15 ∷ by Jump 26 ∷ by Jump 10 ∷ []))
+    -- a Block emits nothing itself; Continue
+    ∷ example (originsOf (bytes 43 0x010000002600000000210000001D0200000018000000140300000001010000000A00000001090000000108)) (origins (
+    by JumpIfFalse 19 ∷ by Nop 24 ∷ by Jump 33 ∷ by Jump 38 ∷ by Jump 19 ∷ []))
+    -- Branches: every JumpIfFalse and Jump; an Expr statement emits nothing itself
+    ∷ example (originsOf (bytes 62 0x0100000039000000003400000030040000001C00000001010000000A00000006010000000101000000010100000000010000000A00000006010000000101)) (origins (
+    by JumpIfFalse 10 ∷ by Nop 19 ∷ by Nop 33 ∷ by Jump 10 ∷ by JumpIfFalse 10 ∷ by Nop 38 ∷ by Jump 10 ∷ by Nop 57 ∷ []))
+    -- Switch: both SwitchLabels and SwitchDefault are its own
+    ∷ example (originsOf (bytes 70 0x0100000041000000003C000000380500000009000000010100000009010000001700000001010000000000000001010000000500000001080000000A00000006010000000101)) (origins (
+    by Switch 10 ∷ by Nop 19 ∷ by SwitchLabel 10 ∷ by Nop 33 ∷ by SwitchLabel 10 ∷ by Nop 42 ∷ by Jump 51 ∷ by SwitchDefault 10 ∷ by Nop 65 ∷ []))
+    -- a mid default: the Jump after SwitchDefault too
+    ∷ example (originsOf (bytes 80 0x010000004B0000000046000000420500000009000000010100000001010000002100000001010000000A0000000601000000010100000001010000000500000001080000000A00000006010000000101)) (origins (
+    by Switch 10 ∷ by Nop 19 ∷ by SwitchLabel 10 ∷ by Nop 33 ∷ by SwitchLabel 10 ∷ by Nop 52 ∷ by SwitchDefault 10 ∷ by Jump 10 ∷ by Nop 47 ∷ by Nop 75 ∷
+    by Jump 61 ∷ []))
+    -- InitArray: its three, and four before each element
+    ∷ example (originsOf (bytes 42 0x010000002500000000200000001C0600000003000000040000000F0000000101000000060B0100000003)) (origins (
+    by ArrayResize 10 ∷ by Local 10 ∷ by U64Const 10 ∷ by Assign 10 ∷ by ArrayElement 10 ∷ by Local 10 ∷ by U64Const 10 ∷ by Nop 27 ∷ by Assign 10 ∷
+    by ArrayElement 10 ∷ by Local 10 ∷ by U64Const 10 ∷ by Local 32 ∷ []))
+    -- InitDefault: of an enum, of an array, of a String
+    ∷ example (originsOf (bytes 52 0x010000002F000000002A0000000A070000000304000000090000000A070000000301000000090000000A07000000030500000009)) (origins (
+    by Assign 10 ∷ by Local 10 ∷ by I32ToEnum 10 ∷ by I8Const 10 ∷ by ArrayClear 24 ∷ by Local 24 ∷ by Assign 38 ∷ by Local 38 ∷ by StringConst 38 ∷ []))
+    -- Return after its value, and the Nop after it; without a value
+    ∷ example (originsOf (bytes 27 0x01000000160000000011000000070A010000000101000000020A00)) (origins (
+    by Nop 16 ∷ by Return 10 ∷ by Nop 10 ∷ by Return 21 ∷ by Nop 21 ∷ []))
+    -- Return before its value
+    ∷ example (originsOf (bytes 21 0x0100000010010000000B000000070A010000000101)) (origins (
+    by Return 10 ∷ by Nop 16 ∷ []))
+    -- fields, by weak reference, of a struct, of an object
+    ∷ example (originsOf (bytes 55 0x0100000032000000002D0000002901000000240702000000050000001A07000000000600000010070100000007000000060B0000000000)) (origins (
+    by Context 15 ∷ by WeakRefToRef 15 ∷ by StructField 25 ∷ by Context 35 ∷ by This 45 ∷ by ObjectField 35 ∷ by ObjectField 15 ∷ []))
+    -- kinds that are one record and then their parts, and Conditional
+    ∷ example (originsOf (bytes 119 0x0100000072000000006D000000690100000064060000001A080100000007000000060B01000000030000000602090000000200000041090000000203000000000504000000080000002D0500000009000000240000000B0A00000001010000000101000000110C1D000100000007000000050000000101)) (origins (
+    by Assign 15 ∷ by ArrayElement 20 ∷ by Local 30 ∷ by I32Const 40 ∷ by Conditional 50 ∷ by Null 55 ∷ by New 61 ∷ by Construct 70 ∷ by DynamicCast 83 ∷
+    by Nop 93 ∷ by Deref 98 ∷ by Nop 114 ∷ []))
+    -- an instance call by weak reference: Context, WeakRefToRef, the invoke, a Skip, the Nop of each absent parameter, ParamEnd
+    ∷ example (originsOf (bytes 55 0x0100000032000000002D0000002901000000240F01000000060B0000000000000000010000000200030003010000000000050000000101)) (origins (
+    by Context 15 ∷ by WeakRefToRef 15 ∷ by This 21 ∷ by InvokeVirtual 15 ∷ by Skip 15 ∷ by Nop 50 ∷ by Nop 15 ∷ by Nop 15 ∷ by ParamEnd 15 ∷ []))
+    -- a free call as an argument of a static call: each has its own
+    ∷ example (originsOf (bytes 65 0x010000003C000000003700000033010000002E0E00000001000000020003000200010000001B0000000101000000120D0000000100000002000301010000000000)) (origins (
+    by InvokeVirtual 15 ∷ by Nop 38 ∷ by Skip 15 ∷ by InvokeStatic 43 ∷ by Nop 43 ∷ by ParamEnd 43 ∷ by ParamEnd 15 ∷ []))
+    -- a closure call
+    ∷ example (originsOf (bytes 45 0x010000002800000000230000001F010000001A10000000060B000000000000000006004D000000050000000101)) (origins (
+    by Context 15 ∷ by This 20 ∷ by InvokeVirtual 15 ∷ by Nop 40 ∷ by ParamEnd 15 ∷ []))
     -- the walk refuses
     -- flagged arguments at index 0 to 16 that are refused by 14 too: 13 is first
     ∷ example (stageOf (unitOf (expression (freeCallOf 17 (times 17 (asRefNode 1)))))) (refuses 13 389 17)
@@ -242,12 +301,12 @@ table =
     -- the whole unit is read before the walk
     ∷ example (stageOf (bytes 20 0x010000000F000000000A0000000108000000010C)) (refuses 2 15 0)
     -- room, listings and resolving
-    -- (a) needs 5 + 18 * 4 bytes
-    ∷ example (roomOf (bytes 31 0x010000001A0000000015000000110300000003020F00000000050000000108) 76 2) (refuses 20 0 0)
+    -- (a) needs 5 + 22 * 4 bytes
+    ∷ example (roomOf (bytes 31 0x010000001A0000000015000000110300000003020F00000000050000000108) 92 2) (refuses 20 0 0)
     -- and 2 words; 20 comes before 21
-    ∷ example (roomOf (bytes 31 0x010000001A0000000015000000110300000003020F00000000050000000108) 77 1) (refuses 21 0 0)
+    ∷ example (roomOf (bytes 31 0x010000001A0000000015000000110300000003020F00000000050000000108) 93 1) (refuses 21 0 0)
     -- and no more
-    ∷ example (roomOf (bytes 31 0x010000001A0000000015000000110300000003020F00000000050000000108) 77 2) (fits 4 2)
+    ∷ example (roomOf (bytes 31 0x010000001A0000000015000000110300000003020F00000000050000000108) 93 2) (fits 4 2)
     -- a listing of no record needs 5 bytes
     ∷ example (roomOf (bytes 10 0x01000000050000000000) 4 0) (refuses 20 0 0)
     -- a slice under 5 bytes
@@ -255,25 +314,30 @@ table =
     -- a part record
     ∷ example (viewOf (bytes 6 0x010000000100) 0) (refuses 30 0 0)
     -- a tag that the base does not emit
-    ∷ example (viewOf (listingOf 0x15 0 0) 0) (refuses 30 0 0)
+    ∷ example (viewOf (listingOf 0x15 0 0 0) 0) (refuses 30 0 0)
     -- an unused field that is not 0
-    ∷ example (viewOf (listingOf Nop 0 1) 0) (refuses 30 0 0)
+    ∷ example (viewOf (listingOf Nop 0 1 0) 0) (refuses 30 0 0)
     -- a used field is not checked further: an I8Const with high bits
-    ∷ example (viewOf (listingOf I8Const 0 0x100) 0) (part (bytes 18 0x040000000000000000000000000000000100))
+    ∷ example (viewOf (listingOf I8Const 0 0x100 0) 0) (part (bytes 22 0x04000000000000000000000000000000010000000000))
+    -- the node is not checked at all
+    ∷ example (viewOf (listingOf Nop 0 0 0xFFFFFFFE) 0) (part (bytes 22 0x000000000000000000000000000000000000FFFFFFFE))
+    -- a record of 18 bytes is a part record; eleven of them are nine of 22
+    ∷ example (viewOf (1 ∷ runOf (times 18 (0 ∷ []))) 0) (refuses 30 0 0)
+    ∷ example (viewOf (1 ∷ runOf (times 198 (0 ∷ []))) 9) (refuses 22 9 0)
     -- record 1 of one
-    ∷ example (viewOf (listingOf Nop 0 0) 1) (refuses 22 1 0)
+    ∷ example (viewOf (listingOf Nop 0 0 0) 1) (refuses 22 1 0)
     -- a Jump to a label that is marked 3
-    ∷ example (resolveOf (listingOf Jump 0 0) (3 ∷ []) 23) (prints 1 3 (first 0 Jump (on 3) 0 ∷ []))
+    ∷ example (resolveOf (listingOf Jump 0 0 0) (3 ∷ []) 27) (prints 1 3 (first 0 Jump (on 3) 0 ∷ []))
     -- outside the table
-    ∷ example (resolveOf (listingOf Jump 1 0) (3 ∷ []) 23) (refuses 31 0 0)
+    ∷ example (resolveOf (listingOf Jump 1 0 0) (3 ∷ []) 27) (refuses 31 0 0)
     -- unmarked
-    ∷ example (resolveOf (listingOf Jump 0 0) (4294967295 ∷ []) 23) (refuses 31 0 0)
+    ∷ example (resolveOf (listingOf Jump 0 0 0) (4294967295 ∷ []) 27) (refuses 31 0 0)
     -- too distant: before the room
-    ∷ example (resolveOf (listingOf Jump 0 0) (4294967294 ∷ []) 0) (refuses 32 0 0)
+    ∷ example (resolveOf (listingOf Jump 0 0 0) (4294967294 ∷ []) 0) (refuses 32 0 0)
     -- the first too distant distance
-    ∷ example (resolveOf (listingOf Jump 0 0) (32768 ∷ []) 23) (refuses 32 0 0)
+    ∷ example (resolveOf (listingOf Jump 0 0 0) (32768 ∷ []) 27) (refuses 32 0 0)
     -- a byte too few
-    ∷ example (resolveOf (listingOf Jump 0 0) (32767 ∷ []) 22) (refuses 20 0 0)
+    ∷ example (resolveOf (listingOf Jump 0 0 0) (32767 ∷ []) 26) (refuses 20 0 0)
     ∷ []
 
 -- 4. The theorem: every question of the table has the reply that stands beside it

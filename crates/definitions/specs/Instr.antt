@@ -1,4 +1,5 @@
--- A record of the listing: "records of 18 bytes: tag 1, small 1, first 2, second 2, line 2, flags 2, value 8".
+-- A record of the listing: "tag 1, small 1, first 2, second 2, line 2, flags 2, value 8", and "four bytes at its end: the unit offset of
+-- the node that emitted it". "Records are 22 bytes".
 use Prim.Native.Nat.{ℕ, _+_}
 use mathlib.Core.Bool.{Bool, cond, _&&_, _||_}
 use mathlib.Core.List.{List, [], _++_}
@@ -17,18 +18,20 @@ pub record Instr : Type 0 where
   pub flags : ℕ
   -- "an index or a constant's own bits, zero-extended; EnumConst has the enum in the high 32 bits"
   pub value : ℕ
+  -- the place of the node whose own rule emitted it; every tag uses it
+  pub node : ℕ
 
 -- the virtual size of a record: that of its tag
 unfoldable pub size : Instr → ℕ
 size i = tagSize (i .tag)
 
 abbrev pub recordLength : ℕ
-recordLength = 18
+recordLength = 22
 
 -- its bytes
 unfoldable pub recordBytes : Instr → List ℕ
 recordBytes i =
-    bytes 1 (i .tag) ++ (bytes 1 (i .small) ++ (bytes 2 (i .first) ++ (bytes 2 (i .second) ++ (bytes 2 (i .line) ++ (bytes 2 (i .flags) ++ bytes 8 (i .value))))))
+    bytes 1 (i .tag) ++ (bytes 1 (i .small) ++ (bytes 2 (i .first) ++ (bytes 2 (i .second) ++ (bytes 2 (i .line) ++ (bytes 2 (i .flags) ++ (bytes 8 (i .value) ++ bytes 4 (i .node)))))))
 
 -- and back: the record in the bytes of s at `at`
 unfoldable pub recordAt : (s : List ℕ) (at : ℕ) → Instr
@@ -40,6 +43,7 @@ recordAt s at = record {
   line = number 2 s (at + 6);
   flags = number 2 s (at + 8);
   value = number 8 s (at + 10);
+  node = number 4 s (at + 18);
 }
 
 -- "Unused fields are 0"
@@ -54,5 +58,5 @@ goodRecord i =
     && unused0 (rowOf (i .tag) .flags) (i .flags) && unused0 (rowOf (i .tag) .value) (i .value)
 
 -- a record with no label: what its tag does not use of `small` and `value` is 0, so that "an unused index is ignored"
-abbrev pub plain : (tag small value : ℕ) → Instr
-plain t m n = record { tag = t; small = cond (rowOf t .small) m 0; first = 0; second = 0; line = 0; flags = 0; value = cond (rowOf t .value) n 0 }
+abbrev pub plain : (node tag small value : ℕ) → Instr
+plain at t m n = record { tag = t; small = cond (rowOf t .small) m 0; first = 0; second = 0; line = 0; flags = 0; value = cond (rowOf t .value) n 0; node = at }

@@ -44,7 +44,7 @@ unfoldable pub resolveRecord : (marks : List ℕ) (start number : ℕ) → Instr
 resolveRecord marks start number i =
     onward (resolveField (rowOf (i .tag) .first) marks start number 0 (i .first)) λ f.
     onward (resolveField (rowOf (i .tag) .second) marks start number 1 (i .second)) λ s.
-    made (record { tag = i .tag; small = i .small; first = f; second = s; line = i .line; flags = i .flags; value = i .value })
+    made (record { tag = i .tag; small = i .small; first = f; second = s; line = i .line; flags = i .flags; value = i .value; node = i .node })
 
 -- 3. All records, from number `number` at offset `start` on
 

@@ -74,6 +74,7 @@ write-then-read i h p r =
       back i p r 4 (lit< tt) (h .line),
       back i p r 5 (lit< tt) (h .flags),
       back i p r 6 (lit< tt) (h .value),
+      back i p r 7 (lit< tt) (h .node),
     )
 
 -- each holds the number that stands in s at its place from `from` on
@@ -106,7 +107,7 @@ unfolding recordAt
 read-then-write s at h b =
     let i = recordAt s at in
     let first : number 1 s at ≡ number 1 s (at + 0) = rw (add-zero at) in
-    let e = fields-back (fieldsOf i) s at 0 recordLength refl (first, (refl, (refl, (refl, (refl, (refl, (refl, tt))))))) h b in
+    let e = fields-back (fieldsOf i) s at 0 recordLength refl (first, (refl, (refl, (refl, (refl, (refl, (refl, (refl, tt)))))))) h b in
     record-bytes i ∙ rw (add-zero at) at e
 
 -- 3. The writer

@@ -34,7 +34,7 @@ defaultTagIs k = kth definitions.defaultTags k
 
 -- a record of the code
 abbrev pub instrOf : Record → Instr
-instrOf r = record { tag = r .tag; small = r .small; first = r .first; second = r .second; line = r .line; flags = r .flags; value = r .value }
+instrOf r = record { tag = r .tag; small = r .small; first = r .first; second = r .second; line = r .line; flags = r .flags; value = r .value; node = r .node }
 
 -- the fields of a record, each with its place, its width and its value
 abbrev pub slot : (at width value : ℕ) → Field
@@ -43,13 +43,13 @@ slot at w v = record { 0 = at; 1 = w; 2 = v }
 abbrev pub fieldsOf : Instr → List Field
 fieldsOf i =
     slot 0 1 (i .tag) ∷ slot 1 1 (i .small) ∷ slot 2 2 (i .first) ∷ slot 4 2 (i .second) ∷ slot 6 2 (i .line) ∷ slot 8 2 (i .flags) ∷
-    slot 10 8 (i .value) ∷ []
+    slot 10 8 (i .value) ∷ slot 18 4 (i .node) ∷ []
 
 -- a list with the w bytes of a number stored from `at` on
 abbrev pub stored : (at w v : ℕ) → List ℕ → List ℕ
 stored at w v s = take at s ++ (bytes w v ++ drop (at + w) s)
 
--- a record written where a part begins: its 18 bytes and then what stood there; a part that is too short stays
+-- a record written where a part begins: its bytes and then what stood there; a part that is too short stays
 unfoldable pub written : Instr → List ℕ → List ℕ
 written i s = cond (leb recordLength (length s)) (recordBytes i ++ drop recordLength s) s
 

@@ -4,6 +4,7 @@ ghost use Prim.Native.Nat.{_+_, _≤_, _<_, _^_};
 ghost use lib.Dec.{leb};
 ghost use lib.ListN.{length, getD};
 ghost use Rattle.definitions.specs.Bytes.{number};
+ghost use Rattle.definitions.specs.Instr.{recordLength};
 ghost use Rattle.instr.specs.Values.{stored};
 
 // A byte as a number.
@@ -37,7 +38,7 @@ fn byte_after(s: &[u8], at: usize, k: usize) -> u8
 
 // The number in w bytes, k places after `at`, each byte tested singly: the plain form.
 pub(crate) fn number_after(s: &[u8], at: usize, k: usize, w: usize) -> u64
-    requires { ⌜ (k ≤ 10) × (w ≤ 8) ⌝ }
+    requires { ⌜ (k ≤ recordLength) × (w ≤ 8) ⌝ }
     ensures { λ r. ⌜ (r ≡ number w (now (s .entry)) (at + k)) × (r < 256 ^ w) ⌝ }
 {
     let mut v: u64 = 0;

@@ -17,11 +17,12 @@ pub struct Record {
     pub line: u16,
     pub flags: u16,
     pub value: u64,
+    pub node: u32,
 }
 
 // Its length in bytes, and where each field begins.
 impl Record {
-    pub const LENGTH: usize = 18;
+    pub const LENGTH: usize = 22;
 
     pub const TAG: usize = 0;
 
@@ -36,13 +37,15 @@ impl Record {
     pub const FLAGS: usize = 8;
 
     pub const VALUE: usize = 10;
+
+    pub const NODE: usize = 18;
 }
 
 // A field on its way into bytes: where it begins, how many bytes it has, and what it holds.
 struct Field(usize, usize, u64);
 
 // The fields of a record, one after the other.
-fn fields_of(r: Record) -> [Field; 7]
+fn fields_of(r: Record) -> [Field; 8]
     ensures { λ fields. ⌜ fields ≡ fieldsOf (instrOf r) ⌝ }
 {
     [
@@ -53,6 +56,7 @@ fn fields_of(r: Record) -> [Field; 7]
         Field(Record::LINE, 2, r.line as u64),
         Field(Record::FLAGS, 2, r.flags as u64),
         Field(Record::VALUE, 8, r.value),
+        Field(Record::NODE, 4, r.node as u64),
     ]
 }
 
@@ -85,6 +89,7 @@ fn read_plain(s: &[u8], at: usize) -> Record
         line: numbers::number_after(s, at, Record::LINE, 2) as u16,
         flags: numbers::number_after(s, at, Record::FLAGS, 2) as u16,
         value: numbers::number_after(s, at, Record::VALUE, 8),
+        node: numbers::number_after(s, at, Record::NODE, 4) as u32,
     }
 }
 
@@ -101,6 +106,7 @@ pub(crate) fn read_inside(s: &[u8], at: usize) -> Record
         line: numbers::u16_inside(s, at + Record::LINE),
         flags: numbers::u16_inside(s, at + Record::FLAGS),
         value: numbers::u64_inside(s, at + Record::VALUE),
+        node: numbers::u32_inside(s, at + Record::NODE) as u32,
     }
 }
 

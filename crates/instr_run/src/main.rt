@@ -14,7 +14,7 @@ ghost use Prim.Native.Nat.{_<_, _≤_, _^_};
 const OUT: i32 = 1;
 
 // The front and 77 records.
-const LENGTH: usize = 1391;
+const LENGTH: usize = 1699;
 
 // A text and a number on a line.
 fn line(text: &[u8], n: u64) {
@@ -63,7 +63,7 @@ fn word_if(used: bool, field: u64) -> u64 {
     if used { field } else { 0 }
 }
 
-// A record with this tag; the bytes of the fields that it uses all differ.
+// A record with this tag; the bytes of the fields that it uses all differ. Every tag uses the node.
 fn sample(tag: u8) -> Record {
     let row = tables::row_of(tag);
     Record {
@@ -74,6 +74,7 @@ fn sample(tag: u8) -> Record {
         line: half_if(row.line, 0x8687),
         flags: half_if(row.flags, 0x8889),
         value: word_if(row.value, 0x8A8B8C8D8E8F9091),
+        node: 0x92939495,
     }
 }
 
@@ -85,6 +86,7 @@ fn same_record(a: Record, b: Record) -> bool {
         && a.line == b.line
         && a.flags == b.flags
         && a.value == b.value
+        && a.node == b.node
 }
 
 // The record of a tag that the base emits, into the part of the listing that begins at it: 1 where it is written.
@@ -132,12 +134,12 @@ fn seen(s: &[u8]) -> u64 {
     n as u64
 }
 
-// Whether a record of 17 bytes reads as the whole one does, with a 0 for its last byte.
+// Whether a record of 21 bytes reads as the whole one does, with a 0 for its last byte.
 fn cut_reads(part: &[u8]) -> bool {
     if part.len() == Record::LENGTH {
         let whole = records::read_record(part, 0);
-        let short = records::read_record(&part[0..17], 0);
-        let value = whole.value - whole.value % 256;
+        let short = records::read_record(&part[0..21], 0);
+        let node = whole.node - whole.node % 256;
         return same_record(
             short,
             Record {
@@ -147,7 +149,8 @@ fn cut_reads(part: &[u8]) -> bool {
                 second: whole.second,
                 line: whole.line,
                 flags: whole.flags,
-                value,
+                value: whole.value,
+                node,
             },
         );
     }

@@ -17,8 +17,8 @@ use Rattle.landing.specs.Distance.{back, sizeExpr, sizeStmt, distExpr, t
 use Rattle.landing.specs.Landed.{left, filledField, filled, orElse, farField, firstFar, unlessFar, withDistances, Landed}
 use Rattle.landing.proofs.Theorem.{landing}
 
-abbrev pub jump : (tag first second value : ℕ) → Instr
-jump t f s v = record { tag = t; small = 0; first = f; second = s; line = 0; flags = 0; value = v }
+abbrev pub jump : (node tag first second value : ℕ) → Instr
+jump at t f s v = record { tag = t; small = 0; first = f; second = s; line = 0; flags = 0; value = v; node = at }
 
 -- 1. while (false) { break }
 
@@ -32,7 +32,7 @@ script-a = record { returns = 0; body = bcons (while 10 (const 15 15 0) (bcons (
 abbrev pub listing-a : State
 listing-a = record {
   offset = 10;
-  instrs = jump Tag.JumpIfFalse 1 0 0 ∷ plain Tag.FalseConst 0 0 ∷ jump Tag.Jump 1 0 0 ∷ jump Tag.Jump 0 0 0 ∷ [];
+  instrs = jump 10 Tag.JumpIfFalse 1 0 0 ∷ plain 15 Tag.FalseConst 0 0 ∷ jump 26 Tag.Jump 1 0 0 ∷ jump 10 Tag.Jump 0 0 0 ∷ [];
   marks = 0 ∷ 10 ∷ [];
 }
 
@@ -53,7 +53,7 @@ unfolding distStmt sizeStmt sizeExpr distExpr back tagSize sizes constTag
 distances-a = refl
 
 pub resolved-a : resolveRecords (0 ∷ 10 ∷ []) 0 0 (listing-a .instrs) ≡
-    made (jump Tag.JumpIfFalse 10 0 0 ∷ plain Tag.FalseConst 0 0 ∷ jump Tag.Jump 6 0 0 ∷ jump Tag.Jump 65529 0 0 ∷ [])
+    made (jump 10 Tag.JumpIfFalse 10 0 0 ∷ plain 15 Tag.FalseConst 0 0 ∷ jump 26 Tag.Jump 6 0 0 ∷ jump 10 Tag.Jump 65529 0 0 ∷ [])
 unfolding withDistances firstFar filled left filledField farField orElse unlessFar inRange word distStmt sizeStmt sizeExpr distExpr back tagSize sizes constTag rowOf rows
 resolved-a = landed-a .resolves
 
@@ -69,8 +69,8 @@ abbrev listing-mid : State
 listing-mid = record {
   offset = 42;
   instrs =
-      jump Tag.JumpIfFalse 1 0 0 ∷ plain Tag.Nop 0 0 ∷ jump Tag.Switch 3 0 9 ∷ plain Tag.Nop 0 0 ∷ jump Tag.SwitchLabel 7 4 0 ∷ plain Tag.Nop 0 0 ∷ jump Tag.SwitchLabel 8 5 0 ∷ plain Tag.Nop 0 0
-      ∷ plain Tag.SwitchDefault 0 0 ∷ jump Tag.Jump 6 0 0 ∷ jump Tag.Jump 2 0 0 ∷ plain Tag.Nop 0 0 ∷ jump Tag.Jump 0 0 0 ∷ jump Tag.Jump 0 0 0 ∷ [];
+      jump 10 Tag.JumpIfFalse 1 0 0 ∷ plain 15 Tag.Nop 0 0 ∷ jump 24 Tag.Switch 3 0 9 ∷ plain 33 Tag.Nop 0 0 ∷ jump 24 Tag.SwitchLabel 7 4 0 ∷ plain 47 Tag.Nop 0 0 ∷ jump 24 Tag.SwitchLabel 8 5 0 ∷ plain 61 Tag.Nop 0 0
+      ∷ plain 24 Tag.SwitchDefault 0 0 ∷ jump 24 Tag.Jump 6 0 0 ∷ jump 56 Tag.Jump 2 0 0 ∷ plain 84 Tag.Nop 0 0 ∷ jump 70 Tag.Jump 0 0 0 ∷ jump 10 Tag.Jump 0 0 0 ∷ [];
   marks = 0 ∷ 42 ∷ 39 ∷ 16 ∷ 32 ∷ 36 ∷ 35 ∷ 22 ∷ 28 ∷ [];
 }
 
@@ -94,7 +94,7 @@ unfolding distStmt distMatchers toDefault sizeStmt sizeExpr distExpr back tagSiz
 distances-mid = refl
 
 pub resolved-mid : resolveRecords (listing-mid .marks) 0 0 (listing-mid .instrs) ≡
-    made (jump Tag.JumpIfFalse 42 0 0 ∷ plain Tag.Nop 0 0 ∷ jump Tag.Switch 12 0 9 ∷ plain Tag.Nop 0 0 ∷ jump Tag.SwitchLabel 6 16 0 ∷ plain Tag.Nop 0 0 ∷ jump Tag.SwitchLabel 6 14 0 ∷ plain Tag.Nop 0 0
-    ∷ plain Tag.SwitchDefault 0 0 ∷ jump Tag.Jump 6 0 0 ∷ jump Tag.Jump 7 0 0 ∷ plain Tag.Nop 0 0 ∷ jump Tag.Jump 65500 0 0 ∷ jump Tag.Jump 65497 0 0 ∷ [])
+    made (jump 10 Tag.JumpIfFalse 42 0 0 ∷ plain 15 Tag.Nop 0 0 ∷ jump 24 Tag.Switch 12 0 9 ∷ plain 33 Tag.Nop 0 0 ∷ jump 24 Tag.SwitchLabel 6 16 0 ∷ plain 47 Tag.Nop 0 0 ∷ jump 24 Tag.SwitchLabel 6 14 0 ∷ plain 61 Tag.Nop 0 0
+    ∷ plain 24 Tag.SwitchDefault 0 0 ∷ jump 24 Tag.Jump 6 0 0 ∷ jump 56 Tag.Jump 7 0 0 ∷ plain 84 Tag.Nop 0 0 ∷ jump 70 Tag.Jump 65500 0 0 ∷ jump 10 Tag.Jump 65497 0 0 ∷ [])
 unfolding withDistances firstFar filled left filledField farField orElse unlessFar inRange word distStmt distMatchers toDefault sizeStmt sizeExpr distExpr back tagSize sizes midDefault isPresent lengthCases rowOf rows
 resolved-mid = landed-mid .resolves

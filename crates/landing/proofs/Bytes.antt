@@ -1,4 +1,5 @@
--- What is read pays for what is emitted: at most 8 units of size and one record for each byte. In a unit of bytes a number that is read has its width.
+-- What is read pays for what is emitted: at most 8 units of size and one record for each byte. In a unit of bytes a number that is read has its width,
+-- and so has the place of a node.
 use Prim.Native.Nat.{ℕ, zero, suc, _+_, _-_, _*_, _^_, _<_, _≤_}
 use mathlib.Core.Path.{_≡_, refl, ap}
 use mathlib.Core.List.{List, [], _∷_}
@@ -29,6 +30,10 @@ pub record Item {A : Type 0} (s : List ℕ) (p : Parser A) (end : ℕ) (μ κ : 
 -- a test that was passed
 pub passed : {A : Type 0} (b : Bool) (v : A) (n c p x : ℕ) (a : A) (next : ℕ) → _≡_ {A = Answer A} (elim b [ true ↦ ok v n | false ↦ refused c p x ]) (ok a next) → (b ≡ true) × (v ≡ a) × (n ≡ next)
 passed b v n c p x a next e = let h = when-ok b (ok v n) c p x e in (h .0, cc (h .1), cc (h .1))
+
+-- a place that fits the four bytes of a record's node
+abbrev pub Narrow : (place : ℕ) → Type 0
+Narrow p = p < 256 ^ 4
 
 -- 2. Steps
 
@@ -121,13 +126,13 @@ items-pay {A} {s} {p} {end} {μ} {κ} {P} h (suc fuel) at xs next l e = go (λ a
         let m = ltb-false at end t in
         rw (← all) (record { size = omega arith; count = omega arith; filled = omega arith; few = omega arith; have = λ b. tt })
 
-module _ {A : Type 0} {p : ℕ → Parser A} {μ κ : A → ℕ} {P : A → Type 0} (s : List ℕ) (end : ℕ) (h : (stop : ℕ) → Item s (p stop) stop μ κ P) where
+module _ {A : Type 0} {p : ℕ → Parser A} {μ κ : A → ℕ} {P : A → Type 0} (s : List ℕ) (end : ℕ) (near : Narrow end) (h : (stop : ℕ) → Narrow stop → Item s (p stop) stop μ κ P) where
   run-both : (at : ℕ) (xs : List A) (next : ℕ) → run s end p at ≡ ok xs next → (32 + sum μ xs + 8 * at ≤ 8 * next) × (4 + sum κ xs + at ≤ next) × (Bytes s → (length xs < 256 ^ 4) × Each P xs) × (next ≤ end)
   unfolding run _>>=_ filling
   run-both at xs next e =
       let r = bind-ok (span s end at) (λ stop. filling p stop) e in
       let t = span-ends s end at (r .0) (r .1) (r .2) in
-      let q = items-pay (h (r .0)) (suc (r .0 - r .1)) (r .1) xs next (omega arith) (r .3) in
+      let q = items-pay (h (r .0) (omega arith)) (suc (r .0 - r .1)) (r .1) xs next (omega arith) (r .3) in
       (omega arith, omega arith, (λ b. (omega (arith, number-fits 4 s at b), q .have b)), omega arith)
 
   -- a run: four bytes for its length, and its items
@@ -152,9 +157,10 @@ over-ended place end a f h = record {
 second : {a b : ℕ} {h : ℕ × ℕ} → (a, b) ≡ h → b ≡ h .1
 second e = ap (λ (z : ℕ × ℕ). z .1) e
 
-pub node-item : {A : Type 0} {body : (kind at end : ℕ) → Parser A} {μ κ : A → ℕ} {P : A → Type 0} (s : List ℕ) (holder : ℕ) → ((kind at end : ℕ) → Pays s (body kind at end) 40 5 μ κ P) → Item s (node s holder body) holder μ κ P
+pub node-item : {A : Type 0} {body : (kind at end : ℕ) → Parser A} {μ κ : A → ℕ} {P : A → Type 0} (s : List ℕ) (holder : ℕ) → Narrow holder →
+    ((kind at end : ℕ) → at ≤ end → Narrow end → Pays s (body kind at end) 40 5 μ κ P) → Item s (node s holder body) holder μ κ P
 unfolding node head _>>=_ give ended
-node-item {A} {body} {μ} {κ} {P} s holder h = record { pays = record { paid = λ at a next e. let r = go at a next e in (r .0, r .1, r .2) }; within = λ at a next e. go at a next e .3 }
+node-item {A} {body} {μ} {κ} {P} s holder near h = record { pays = record { paid = λ at a next e. let r = go at a next e in (r .0, r .1, r .2) }; within = λ at a next e. go at a next e .3 }
   where
     go : (at : ℕ) (a : A) (next : ℕ) → node s holder body at ≡ ok a next → (μ a + 8 * at ≤ 8 * next + 0) × (κ a + at ≤ next + 0) × (Bytes s → P a) × (next ≤ holder)
     go at a next e =
@@ -166,9 +172,9 @@ node-item {A} {body} {μ} {κ} {P} s holder h = record { pays = record { paid = 
         let hd : (c .0, t .0) ≡ r .0 = cc in
         let mid : c .1 ≡ r .1 = cc in
         let q = bind-ok (body (r .0 .0) at (r .0 .1) (r .1)) (λ a. ended at (r .0 .1) a) (r .3) in
-        let paid = h (r .0 .0) at (r .0 .1) .paid (r .1) (q .0) (q .1) (q .2) in
         let f = passed (eqb (q .1) (r .0 .1)) (q .0) (q .1) 3 at 0 a next (q .3) in
         let end : t .0 ≡ r .0 .1 = second {a = c .0} {b = t .0} {h = r .0} hd in
+        let paid = h (r .0 .0) at (r .0 .1) (omega arith) (omega arith) .paid (r .1) (q .0) (q .1) (q .2) in
         let last = eqb-true (q .1) (r .0 .1) (f .0) in
         rw (← f .1) (omega arith, omega arith, paid .2, omega arith)
 

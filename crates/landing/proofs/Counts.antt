@@ -65,7 +65,7 @@ unfoldable mutual
   countStmt (switch at type e defaultIndex cs d) r =
       1 + countExpr e + cond (midDefault d defaultIndex cs) (2 + countMatchers cs + countBlocks cs defaultIndex (countDefault d r) r) (countCases cs r + countLast d r)
   countStmt (initArray at l t es) r = countArray es
-  countStmt (initDefault at l b i) r = length (defaultInstrs l b i)
+  countStmt (initDefault at l b i) r = length (defaultInstrs at l b i)
   countStmt (break at) r = 1
   countStmt (continue at) r = 1
   countStmt (return at e) r = countExpr e + countReturn r

@@ -17,15 +17,15 @@ use Rattle.landing.proofs.Rules.{nothing, plain, carry, carry2, labels,
 
 -- 1. Parts
 
-landWeak : {M : ℕ → ℕ} {o n : ℕ} (weak : ℕ) → Whole M o n (weakToRef weak) (sizeWeak weak) (oneIf weak) []
+landWeak : {M : ℕ → ℕ} {o n : ℕ} (at weak : ℕ) → Whole M o n (weakToRef at weak) (sizeWeak weak) (oneIf weak) []
 unfolding weakToRef sizeWeak oneIf rowOf rows
-landWeak zero = nothing
-landWeak (suc w) = plain (refl, refl)
+landWeak at zero = nothing
+landWeak at (suc w) = plain (refl, refl)
 
-landNops : {M : ℕ → ℕ} {o n : ℕ} (ps : List ℕ) → Whole M o n (nops ps) (sizeNops ps) (length ps) []
+landNops : {M : ℕ → ℕ} {o n : ℕ} (at : ℕ) (ps : List ℕ) → Whole M o n (nops at ps) (sizeNops ps) (length ps) []
 unfolding nops sizeNops rowOf rows
-landNops [] = nothing
-landNops (p ∷ ps) = close (seq (plain (refl, refl)) (landNops ps)) refl (omega arith)
+landNops at [] = nothing
+landNops at (p ∷ ps) = close (seq (plain (refl, refl)) (landNops at ps)) refl (omega arith)
 
 -- a field, with what is said of its receiver
 landField : {M : ℕ → ℕ} {o n : ℕ} {s c : ℕ} {ds : List ℤ} (at form name : ℕ) (receiver : Code) → ((o n : ℕ) → Whole M o n receiver s c ds) →
@@ -33,7 +33,7 @@ landField : {M : ℕ → ℕ} {o n : ℕ} {s c : ℕ} {ds : List ℤ} (at form n
 unfolding lowerField sizeField countField distField rowOf rows
 landField at zero name receiver f = close (seq (plain (refl, refl)) (f _ _)) refl (omega arith)
 landField at (suc weak) name receiver f =
-    close (labels (seq (carry (refl, refl)) (seq (landWeak weak) (last (f _ _) (ends (plain (refl, refl))))))) refl (omega arith)
+    close (labels (seq (carry (refl, refl)) (seq (landWeak at weak) (last (f _ _) (ends (plain (refl, refl))))))) refl (omega arith)
 
 landArg : {M : ℕ → ℕ} {o n : ℕ} {s c : ℕ} {ds : List ℤ} (at p : ℕ) (arg : Code) → ((o n : ℕ) → Whole M o n arg s c ds) →
     Whole M o n (lowerArg at p arg) (sizeSkip p + s) (oneIf p + c) (distSkip p s ds)
@@ -47,18 +47,18 @@ unfolding requireFlags
 landFlags enil i = nothing
 landFlags (econs e es) i = close (seq (requires _ 13 _ (i + 1)) (landFlags es (i + 1))) refl (omega arith)
 
-landInvoke : {M : ℕ → ℕ} {o n a : ℕ} (b exit line flags function name : ℕ) →
-    Piece M o n (emitInvoke b exit line flags function name) (sizeInvoke b) 1 [] [] Unit (M exit ≡ o + a) Unit Unit (ahead a ∷ [])
+landInvoke : {M : ℕ → ℕ} {o n a : ℕ} (at b exit line flags function name : ℕ) →
+    Piece M o n (emitInvoke at b exit line flags function name) (sizeInvoke b) 1 [] [] Unit (M exit ≡ o + a) Unit Unit (ahead a ∷ [])
 unfolding emitInvoke sizeInvoke rowOf rows
-landInvoke zero exit line flags function name = carry (refl, refl)
-landInvoke (suc b) exit line flags function name = carry (refl, refl)
+landInvoke at zero exit line flags function name = carry (refl, refl)
+landInvoke at (suc b) exit line flags function name = carry (refl, refl)
 
 -- a call, with what is said of its arguments
 landCall : {M : ℕ → ℕ} {o n : ℕ} {s c : ℕ} {ds : List ℤ} (at : ℕ) (k : Callee) (args : Exprs) (code : Code) → ((o n : ℕ) → Whole M o n code s c ds) →
     Whole M o n (emitCall at k args code) (sizeCall k s) (2 + c) (distCall k s ds)
 unfolding emitCall rowOf rows
 landCall at k args code f =
-    close (labels (seq (landFlags args 0) (seq (landInvoke (k .flags) _ _ _ _ _) (last (f _ _) (ends (plain (refl, refl))))))) refl (omega arith)
+    close (labels (seq (landFlags args 0) (seq (landInvoke at (k .flags) _ _ _ _ _) (last (f _ _) (ends (plain (refl, refl))))))) refl (omega arith)
 
 -- 2. Expressions
 
@@ -85,7 +85,7 @@ mutual
   landExpr (staticCall at c args) =
       close (labels (ends (landCall at c args (lowerArgs args at (c .params)) (λ o n. landArgs args at (c .params))))) refl (omega arith)
   landExpr (instanceCall at weak e c args) =
-      close (labels (seq (carry (refl, refl)) (seq (landWeak weak) (seq (landExpr e)
+      close (labels (seq (carry (refl, refl)) (seq (landWeak at weak) (seq (landExpr e)
       (ends (landCall at c args (lowerArgs args at (c .params)) (λ o n. landArgs args at (c .params)))))))) refl (omega arith)
   landExpr (closureCall at e name line args) =
       close (labels (seq (carry (refl, refl)) (seq (landExpr e) (here (labels (seq (carry (refl, refl)) (last (landExprs args) (ends (plain (refl, refl)))))))))) refl (omega arith)
@@ -95,18 +95,18 @@ mutual
   landExprs (econs e es) = close (seq (landExpr e) (landExprs es)) refl (omega arith)
 
   pub landArgs : {M : ℕ → ℕ} {o n : ℕ} (es : Exprs) (at : ℕ) (params : List ℕ) → Whole M o n (lowerArgs es at params) (sizeArgs es params) (countArgs es params) (distArgs es params)
-  landArgs enil at ps = landNops ps
+  landArgs enil at ps = landNops at ps
   landArgs (econs e es) at [] = close (seq (landExpr e) (landArgs es at [])) refl (omega arith)
   landArgs (econs e es) at (p ∷ ps) = close (seq (landArg at p (lowerExpr e) (λ o n. landExpr e)) (landArgs es at ps)) refl (omega arith)
 
 -- 3. The elements of an array
 
-landElements : {M : ℕ → ℕ} {o n : ℕ} (es : Exprs) (l t i : ℕ) → Whole M o n (lowerElements es l t i) (sizeElements es) (countElements es) (distExprs es)
+landElements : {M : ℕ → ℕ} {o n : ℕ} (es : Exprs) (at l t i : ℕ) → Whole M o n (lowerElements es at l t i) (sizeElements es) (countElements es) (distExprs es)
 unfolding lowerElements sizeElements countElements distExprs rowOf rows
-landElements enil l t i = nothing
-landElements (econs e es) l t i = close (seq (straight _ ((refl, refl), ((refl, refl), ((refl, refl), ((refl, refl), tt))))) (seq (landExpr e) (landElements es l t (i + 1)))) refl (omega arith)
+landElements enil at l t i = nothing
+landElements (econs e es) at l t i = close (seq (straight _ ((refl, refl), ((refl, refl), ((refl, refl), ((refl, refl), tt))))) (seq (landExpr e) (landElements es at l t (i + 1)))) refl (omega arith)
 
-pub landArray : {M : ℕ → ℕ} {o n : ℕ} (es : Exprs) (l t : ℕ) → Whole M o n (lowerArray es l t) (sizeArray es) (countArray es) (distExprs es)
+pub landArray : {M : ℕ → ℕ} {o n : ℕ} (es : Exprs) (at l t : ℕ) → Whole M o n (lowerArray es at l t) (sizeArray es) (countArray es) (distExprs es)
 unfolding lowerArray sizeArray countArray distExprs rowOf rows
-landArray enil l t = nothing
-landArray (econs e es) l t = close (seq (straight _ ((refl, refl), ((refl, refl), ((refl, refl), tt)))) (landElements (econs e es) l t 0)) refl (omega arith)
+landArray enil at l t = nothing
+landArray (econs e es) at l t = close (seq (straight _ ((refl, refl), ((refl, refl), ((refl, refl), tt)))) (landElements (econs e es) at l t 0)) refl (omega arith)

@@ -33,12 +33,12 @@ unusedAre0 i =
 
 -- its tag has a size, and its other fields have their widths
 abbrev pub Widths : Instr → Type 0
-Widths i = (0 < tagSize (i .tag)) × (i .small < 256) × (i .first < 65536) × (i .second < 65536) × (i .line < 65536) × (i .flags < 65536) × (i .value < 256 ^ 8)
+Widths i = (0 < tagSize (i .tag)) × (i .small < 256) × (i .first < 65536) × (i .second < 65536) × (i .line < 65536) × (i .flags < 65536) × (i .value < 256 ^ 8) × (i .node < 256 ^ 4)
 
 fits : {i : Instr} → unusedAre0 i ≡ true → Widths i → Fits i
 unfolding goodRecord
 fits {i} e w = (
-  record { tag = tag-fits (i .tag) (w .0); small = w .1; first = w .2; second = w .3; line = w .4; flags = w .5; value = w .6 },
+  record { tag = tag-fits (i .tag) (w .0); small = w .1; first = w .2; second = w .3; line = w .4; flags = w .5; value = w .6; node = w .7 },
   rw (emitted-is (i .tag) (w .0)) e,
 )
 
@@ -56,11 +56,11 @@ pub masked-below : (used : Bool) (n w : ℕ) → n < w → cond used n 0 < w
 masked-below true n w h = h
 masked-below false n w h = omega arith
 
-pub plain-fits : (t m v : ℕ) → (0 < tagSize t) × (m < 256) × (v < 256 ^ 8) → Fits (plain t m v)
-plain-fits t m v w =
+pub plain-fits : (at t m v : ℕ) → (0 < tagSize t) × (m < 256) × (v < 256 ^ 8) × (at < 256 ^ 4) → Fits (plain at t m v)
+plain-fits at t m v w =
     let r = rowOf t in
     fits (rw (masked (r .small) m, zero-unused (r .first), zero-unused (r .second), zero-unused (r .line), zero-unused (r .flags), masked (r .value) v))
-    (w .0, masked-below (r .small) m 256 (w .1), omega arith, omega arith, omega arith, omega arith, masked-below (r .value) v (256 ^ 8) (w .2))
+    (w .0, masked-below (r .small) m 256 (w .1), omega arith, omega arith, omega arith, omega arith, masked-below (r .value) v (256 ^ 8) (w .2), w .3)
 
 -- 2. The judgement
 
@@ -164,8 +164,8 @@ straight [] h = nothing
 straight (i ∷ is) h = seq (one (h .0)) (straight is (h .1))
 
 -- with no label
-pub bare : (t m v : ℕ) → (0 < tagSize t) × (m < 256) × (v < 256 ^ 8) → Fine (act (emit (plain t m v)))
-bare t m v w = one (plain-fits t m v w)
+pub bare : (at t m v : ℕ) → (0 < tagSize t) × (m < 256) × (v < 256 ^ 8) × (at < 256 ^ 4) → Fine (act (emit (plain at t m v)))
+bare at t m v w = one (plain-fits at t m v w)
 
 -- with labels
 pub carry : {i : Instr} → unusedAre0 i ≡ true → Widths i → Fine (act (emit i))

@@ -3,6 +3,7 @@ pub mod Theorem
 pub mod Applied
 pub mod Sums
 pub mod Emitted
+pub mod Nodes
 mod Pieces
 mod Rules
 mod Counts

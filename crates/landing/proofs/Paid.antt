@@ -28,7 +28,7 @@ use Rattle.landing.specs.Walk.{Bytes}
 use Rattle.landing.proofs.Counts.{oneIf, countField, countExpr, countExprs, countArgs, countElements, countArray, countReturn, countStmt, countMatchers, countBlocks, countCases, countLast, countBranches, countDefault, countBlock}
 use Rattle.landing.proofs.Fits.{Fine, marks, seq, labels, manyLabels, either, required, bare, carry}
 use Rattle.landing.proofs.Parts.{weak-fine, field-fine, CalleeFits, call-fine, FineExpr, exprs-fine, args-fine, array-fine, default-fine, return-nothing, return-fine, Known, jumpTo-fine, FineStmt, FineArm, FineDefault, block-fine, absent-fine, present-fine, branches-fine, cases-fine, matchers-fine, bodies-fine}
-use Rattle.landing.proofs.Bytes.{_&_, Pays, Item, passed, over, gives, unsigned-pays, tested, byteBelow-pays, markBytes-pays, sum, run-pays, run-within, over-ended, node-item, unknown-pays, pick-pays}
+use Rattle.landing.proofs.Bytes.{_&_, Narrow, Pays, Item, passed, over, gives, unsigned-pays, tested, byteBelow-pays, markBytes-pays, sum, run-pays, run-within, over-ended, node-item, unknown-pays, pick-pays}
 
 -- 1. Expressions: what a list of them takes
 
@@ -100,7 +100,7 @@ field-count (suc w) r = omega (arith, one-if w)
 
 -- an expression of a run
 abbrev ExprItem : (s : List ℕ) → (ℕ → Parser Expr) → Type 0
-ExprItem s child = (end : ℕ) → Item s (child end) end spareE spareC FineExpr
+ExprItem s child = (end : ℕ) → Narrow end → Item s (child end) end spareE spareC FineExpr
 
 payload-pays : (s : List ℕ) (at end b : ℕ) → Pays s (payload s at end b) 0 0 (λ v. 0) (λ v. 0) (λ v. v < 256 ^ 8)
 unfolding payload constWidths every
@@ -120,12 +120,12 @@ callee-pays s at end =
     over (unsigned-pays s at end 4) λ f f′. over (unsigned-pays s at end 4) λ n n′. over (unsigned-pays s at end 2) λ l l′. over (byteBelow-pays s at end 16) λ b b′.
     over (unsigned-pays s at end 1) λ k k′. over (markBytes-pays s at end k) λ ms ms′. gives _ (omega arith) λ bytes. record { function = f′ bytes; name = n′ bytes; line = l′ bytes }
 
-arguments-pay : {child : ℕ → Parser Expr} (s : List ℕ) (at end params : ℕ) → ExprItem s child →
+arguments-pay : {child : ℕ → Parser Expr} (s : List ℕ) (at end params : ℕ) → at ≤ end → Narrow end → ExprItem s child →
     Pays s (arguments s child at end params) 0 0 (λ es. 32 + sizeElements es) (λ es. 4 + countElements es) (λ es. (ps : List ℕ) → Fine (lowerArgs es at ps))
 unfolding arguments
-arguments-pay s at end params h =
-    over (run-pays s end h) λ xs xs′. over-ended at end xs _
-    (tested (leb (length xs) params) (exprsOf xs) 5 at 0 (omega (arith, el-size xs, el-count xs)) λ e bytes ps. args-fine xs at ps (xs′ bytes .1))
+arguments-pay s at end params z near h =
+    over (run-pays s end near h) λ xs xs′. over-ended at end xs _
+    (tested (leb (length xs) params) (exprsOf xs) 5 at 0 (omega (arith, el-size xs, el-count xs)) λ e bytes ps. args-fine xs at ps (omega arith) (xs′ bytes .1))
 
 -- a call is paid by its node, its function and its arguments
 call-size : (c : Callee) (es : Exprs) →
@@ -137,98 +137,98 @@ call-size c es = let r = a-size es (c .params) in (omega (arith, invoke-size (c 
 abbrev PaysE : (s : List ℕ) → Parser Expr → Type 0
 PaysE s p = Pays s p 40 5 spareE spareC FineExpr
 
-module _ (s : List ℕ) (child : ℕ → Parser Expr) (h : ExprItem s child) (at end : ℕ) where
+module _ (s : List ℕ) (child : ℕ → Parser Expr) (h : ExprItem s child) (at end : ℕ) (z : at ≤ end) (near : Narrow end) where
   nop-pays : PaysE s (asNop at)
   unfolding asNop sizeExpr countExpr lowerExpr
-  nop-pays = gives (nop at) (omega (arith, sized)) λ bytes. bare Tag.Nop 0 0 (omega (arith, sized))
+  nop-pays = gives (nop at) (omega (arith, sized)) λ bytes. bare at Tag.Nop 0 0 (omega (arith, sized))
 
   const-pays : PaysE s (asConst s at end)
   unfolding asConst sizeExpr countExpr lowerExpr
   const-pays =
       over (byteBelow-pays s at end 16) λ b b′. over (payload-pays s at end b) λ v v′.
-      gives (const at b v) (omega (arith, size-limit (constTag b v))) λ bytes. bare (constTag b v) 0 v (const-plain b v .sized, omega arith, v′ bytes)
+      gives (const at b v) (omega (arith, size-limit (constTag b v))) λ bytes. bare at (constTag b v) 0 v (const-plain b v .sized, omega arith, v′ bytes, omega arith)
 
   null-pays : PaysE s (asNull s at end)
   unfolding asNull sizeExpr countExpr lowerExpr
-  null-pays = over (byteBelow-pays s at end 2) λ w w′. gives (null at w) (omega (arith, size-limit (nullTag w))) λ bytes. bare (nullTag w) 0 0 (null-plain w .sized, omega arith, omega arith)
+  null-pays = over (byteBelow-pays s at end 2) λ w w′. gives (null at w) (omega (arith, size-limit (nullTag w))) λ bytes. bare at (nullTag w) 0 0 (null-plain w .sized, omega arith, omega arith, omega arith)
 
   newInstance-pays : PaysE s (asNewInstance s at end)
   unfolding asNewInstance sizeExpr countExpr lowerExpr
-  newInstance-pays = over (unsigned-pays s at end 4) λ c c′. gives (newInstance at c) (omega (arith, sized)) λ bytes. bare Tag.New 0 c (omega (arith, sized, c′ bytes))
+  newInstance-pays = over (unsigned-pays s at end 4) λ c c′. gives (newInstance at c) (omega (arith, sized)) λ bytes. bare at Tag.New 0 c (omega (arith, sized, c′ bytes))
 
   construct-pays : PaysE s (asConstruct s child at end)
   unfolding asConstruct sizeExpr countExpr lowerExpr
   construct-pays =
-      over (unsigned-pays s at end 4) λ c c′. over (run-pays s end h) λ xs xs′. let n = lengthExprs (exprsOf xs) in let r = es-size (exprsOf xs) in
+      over (unsigned-pays s at end 4) λ c c′. over (run-pays s end near h) λ xs xs′. let n = lengthExprs (exprsOf xs) in let r = es-size (exprsOf xs) in
       gives (construct at c (exprsOf xs)) (omega (arith, sized, el-size xs, el-count xs)) λ bytes.
-      required (ltb n 256) 12 at n λ e. seq (bare Tag.Construct n c (omega (arith, sized, ltb-true n 256 e, c′ bytes))) (exprs-fine xs (xs′ bytes .1))
+      required (ltb n 256) 12 at n λ e. seq (bare at Tag.Construct n c (omega (arith, sized, ltb-true n 256 e, c′ bytes))) (exprs-fine xs (xs′ bytes .1))
 
   assign-pays : PaysE s (asAssign child at end)
   unfolding asAssign sizeExpr countExpr lowerExpr
-  assign-pays = over (h end .pays) λ p p′. over (h end .pays) λ e e′. gives (assign at p e) (omega (arith, sized)) λ bytes. seq (bare Tag.Assign 0 0 (omega (arith, sized))) (seq (p′ bytes) (e′ bytes))
+  assign-pays = over (h end near .pays) λ p p′. over (h end near .pays) λ e e′. gives (assign at p e) (omega (arith, sized)) λ bytes. seq (bare at Tag.Assign 0 0 (omega (arith, sized))) (seq (p′ bytes) (e′ bytes))
 
   field-pays : PaysE s (asField s child at end)
   unfolding asField sizeExpr countExpr lowerExpr
   field-pays =
-      over (byteBelow-pays s at end 3) λ f f′. over (unsigned-pays s at end 4) λ n n′. over (h end .pays) λ e e′.
-      gives (field at f n e) (omega (arith, field-size f (sizeExpr e), field-count f (countExpr e))) λ bytes. field-fine at f n (n′ bytes) (e′ bytes)
+      over (byteBelow-pays s at end 3) λ f f′. over (unsigned-pays s at end 4) λ n n′. over (h end near .pays) λ e e′.
+      gives (field at f n e) (omega (arith, field-size f (sizeExpr e), field-count f (countExpr e))) λ bytes. field-fine at f n (n′ bytes, omega arith) (e′ bytes)
 
   index-pays : PaysE s (asIndex s child at end)
   unfolding asIndex sizeExpr countExpr lowerExpr
   index-pays =
-      over (byteBelow-pays s at end 2) λ d d′. over (unsigned-pays s at end 4) λ t t′. over (h end .pays) λ a a′. over (h end .pays) λ i i′.
-      gives (index at d t a i) (omega (arith, size-limit (elementTag d))) λ bytes. seq (bare (elementTag d) 0 t (element-plain d .sized, omega arith, omega (arith, t′ bytes))) (seq (a′ bytes) (i′ bytes))
+      over (byteBelow-pays s at end 2) λ d d′. over (unsigned-pays s at end 4) λ t t′. over (h end near .pays) λ a a′. over (h end near .pays) λ i i′.
+      gives (index at d t a i) (omega (arith, size-limit (elementTag d))) λ bytes. seq (bare at (elementTag d) 0 t (element-plain d .sized, omega arith, omega (arith, t′ bytes), omega arith)) (seq (a′ bytes) (i′ bytes))
 
   conditional-pays : PaysE s (asConditional child at end)
   unfolding asConditional sizeExpr countExpr lowerExpr unused0 rowOf rows labelLimit
   conditional-pays =
-      over (h end .pays) λ c c′. over (h end .pays) λ t t′. over (h end .pays) λ e e′.
+      over (h end near .pays) λ c c′. over (h end near .pays) λ t t′. over (h end near .pays) λ e e′.
       gives (conditional at c t e) (omega (arith, sized)) λ bytes. labels λ l l′. labels λ m m′. seq (carry refl (omega (arith, sized))) (seq (c′ bytes) (seq (t′ bytes) (seq marks (seq (e′ bytes) marks))))
 
   dynCast-pays : PaysE s (asDynCast s child at end)
   unfolding asDynCast sizeExpr countExpr lowerExpr
   dynCast-pays =
-      over (unsigned-pays s at end 4) λ c c′. over (byteBelow-pays s at end 2) λ w w′. over (h end .pays) λ e e′.
-      gives (dynCast at c w e) (omega (arith, sized)) λ bytes. seq (bare Tag.DynamicCast w c (omega (arith, sized, c′ bytes, w′ bytes))) (e′ bytes)
+      over (unsigned-pays s at end 4) λ c c′. over (byteBelow-pays s at end 2) λ w w′. over (h end near .pays) λ e e′.
+      gives (dynCast at c w e) (omega (arith, sized)) λ bytes. seq (bare at Tag.DynamicCast w c (omega (arith, sized, c′ bytes, w′ bytes))) (e′ bytes)
 
   local-pays : PaysE s (asLocal s at end)
   unfolding asLocal sizeExpr countExpr lowerExpr
   local-pays =
       over (byteBelow-pays s at end 4) λ f f′. over (unsigned-pays s at end 4) λ i i′.
-      gives (local at f i) (omega (arith, size-limit (localTag f))) λ bytes. bare (localTag f) 0 i (local-plain f .sized, omega arith, omega (arith, i′ bytes))
+      gives (local at f i) (omega (arith, size-limit (localTag f))) λ bytes. bare at (localTag f) 0 i (local-plain f .sized, omega arith, omega (arith, i′ bytes), omega arith)
 
   intrinsic-pays : PaysE s (asIntrinsic s child at end)
   unfolding asIntrinsic sizeExpr countExpr lowerExpr
   intrinsic-pays =
-      over (byteBelow-pays s at end 34) λ k k′. over (byteBelow-pays s at end 2) λ m m′. over (unsigned-pays s at end 1) λ t t′. over (unsigned-pays s at end 4) λ i i′. over (run-pays s end h) λ xs xs′. let r = es-size (exprsOf xs) in
+      over (byteBelow-pays s at end 34) λ k k′. over (byteBelow-pays s at end 2) λ m m′. over (unsigned-pays s at end 1) λ t t′. over (unsigned-pays s at end 4) λ i i′. over (run-pays s end near h) λ xs xs′. let r = es-size (exprsOf xs) in
       gives (intrinsic at k m t i (exprsOf xs)) (omega (arith, el-size xs, size-limit (intrinsicOf k .tag), el-count xs)) λ bytes.
-      required _ 14 at 0 λ e. seq (bare (intrinsicOf k .tag) (intrinsicOf k .small) i (intrinsic-plain k .sized, intrinsic-small k, omega (arith, i′ bytes))) (exprs-fine xs (xs′ bytes .1))
+      required _ 14 at 0 λ e. seq (bare at (intrinsicOf k .tag) (intrinsicOf k .small) i (intrinsic-plain k .sized, intrinsic-small k, omega (arith, i′ bytes), omega arith)) (exprs-fine xs (xs′ bytes .1))
 
   freeCall-pays : PaysE s (asFreeCall s child at end)
   unfolding asFreeCall sizeExpr countExpr lowerExpr
   freeCall-pays =
-      over (callee-pays s at end) λ c c′. over (arguments-pay s at end (length (c .params)) h) λ es es′.
-      gives (freeCall at c es) (call-size c es) λ bytes. call-fine at c es (c′ bytes) (es′ bytes (c .params))
+      over (callee-pays s at end) λ c c′. over (arguments-pay s at end (length (c .params)) z near h) λ es es′.
+      gives (freeCall at c es) (call-size c es) λ bytes. call-fine at c es (omega arith) (c′ bytes) (es′ bytes (c .params))
 
   staticCall-pays : PaysE s (asStaticCall s child at end)
   unfolding asStaticCall sizeExpr countExpr lowerExpr
   staticCall-pays =
-      over (callee-pays s at end) λ c c′. over (arguments-pay s at end (length (c .params)) h) λ es es′.
-      gives (staticCall at c es) (call-size c es) λ bytes. labels λ l l′. seq (call-fine at c es (c′ bytes) (es′ bytes (c .params))) marks
+      over (callee-pays s at end) λ c c′. over (arguments-pay s at end (length (c .params)) z near h) λ es es′.
+      gives (staticCall at c es) (call-size c es) λ bytes. labels λ l l′. seq (call-fine at c es (omega arith) (c′ bytes) (es′ bytes (c .params))) marks
 
   instanceCall-pays : PaysE s (asInstanceCall s child at end)
   unfolding asInstanceCall sizeExpr countExpr lowerExpr unused0 rowOf rows labelLimit
   instanceCall-pays =
-      over (byteBelow-pays s at end 2) λ w w′. over (h end .pays) λ e e′. over (callee-pays s at end) λ c c′. over (arguments-pay s at end (length (c .params)) h) λ es es′. let r = a-size es (c .params) in
+      over (byteBelow-pays s at end 2) λ w w′. over (h end near .pays) λ e e′. over (callee-pays s at end) λ c c′. over (arguments-pay s at end (length (c .params)) z near h) λ es es′. let r = a-size es (c .params) in
       gives (instanceCall at w e c es) (omega (arith, invoke-size (c .flags), weak-size w, size-limit Tag.ParamEnd, size-limit Tag.Context, one-if w)) λ bytes.
-      labels λ l l′. seq (carry refl (omega (arith, sized))) (seq (weak-fine w) (seq (e′ bytes) (seq (call-fine at c es (c′ bytes) (es′ bytes (c .params))) marks)))
+      labels λ l l′. seq (carry refl (omega (arith, sized))) (seq (weak-fine at w (omega arith)) (seq (e′ bytes) (seq (call-fine at c es (omega arith) (c′ bytes) (es′ bytes (c .params))) marks)))
 
   closureCall-pays : PaysE s (asClosureCall s child at end)
   unfolding asClosureCall sizeExpr countExpr lowerExpr unused0 rowOf rows labelLimit
   closureCall-pays =
-      over (h end .pays) λ e e′. over (unsigned-pays s at end 4) λ n n′. over (unsigned-pays s at end 2) λ l l′. over (run-pays s end h) λ xs xs′. let r = es-size (exprsOf xs) in
+      over (h end near .pays) λ e e′. over (unsigned-pays s at end 4) λ n n′. over (unsigned-pays s at end 2) λ l l′. over (run-pays s end near h) λ xs xs′. let r = es-size (exprsOf xs) in
       gives (closureCall at e n l (exprsOf xs)) (omega (arith, sized, el-size xs, el-count xs)) λ bytes.
-      labels λ m m′. seq (carry refl (omega (arith, sized))) (seq (e′ bytes) (seq marks (labels λ k k′. seq (carry refl (omega (arith, sized, n′ bytes, l′ bytes))) (seq (exprs-fine xs (xs′ bytes .1)) (seq (bare Tag.ParamEnd 0 0 (omega (arith, sized))) marks)))))
+      labels λ m m′. seq (carry refl (omega (arith, sized))) (seq (e′ bytes) (seq marks (labels λ k k′. seq (carry refl (omega (arith, sized, n′ bytes, l′ bytes))) (seq (exprs-fine xs (xs′ bytes .1)) (seq (bare at Tag.ParamEnd 0 0 (omega (arith, sized))) marks)))))
 
   body-pays : (kind : ℕ) → PaysE s (exprBody s child kind at end)
   unfolding exprBody exprKinds
@@ -238,8 +238,8 @@ module _ (s : List ℕ) (child : ℕ → Parser Expr) (h : ExprItem s child) (at
 
 expr-item : (depth : ℕ) (s : List ℕ) → ExprItem s (parseExpr depth s)
 unfolding parseExpr
-expr-item zero s holder = record { pays = record { paid = λ at a next e. refused-not-ok e }; within = λ at a next e. refused-not-ok e }
-expr-item (suc d) s holder = node-item s holder (λ kind at end. body-pays s (parseExpr d s) (expr-item d s) at end kind)
+expr-item zero s holder near = record { pays = record { paid = λ at a next e. refused-not-ok e }; within = λ at a next e. refused-not-ok e }
+expr-item (suc d) s holder near = node-item s holder near (λ kind at end z near. body-pays s (parseExpr d s) (expr-item d s) at end z near kind)
 
 -- 3. Statements, in a unit with the return byte r
 
@@ -296,22 +296,22 @@ unfolding sizeArray countArray
 array-size enil = (omega (arith, sized), omega arith)
 array-size (econs e es) = (omega (arith, sized), omega arith)
 
-primitive-size : (k i : ℕ) → (tagTotal (primitiveDefault k i) ≤ 17) × (length (primitiveDefault k i) ≤ 1)
+primitive-size : (at k i : ℕ) → (tagTotal (primitiveDefault at k i) ≤ 17) × (length (primitiveDefault at k i) ≤ 1)
 unfolding primitiveDefault
-primitive-size k i = go (ltb k 17) (cond (ltb k 4) i 0)
+primitive-size at k i = go (ltb k 17) (cond (ltb k 4) i 0)
   where
-    go : (b : Bool) (v : ℕ) → let is = cond b (Rattle.definitions.specs.Instr.plain (getD defaultTags k Tag.Nop) 0 v ∷ []) [] in (tagTotal is ≤ 17) × (length is ≤ 1)
+    go : (b : Bool) (v : ℕ) → let is = cond b (Rattle.definitions.specs.Instr.plain at (getD defaultTags k Tag.Nop) 0 v ∷ []) [] in (tagTotal is ≤ 17) × (length is ≤ 1)
     go true v = (omega (arith, size-limit (getD defaultTags k Tag.Nop)), omega arith)
     go false v = (omega arith, omega arith)
 
-default-size : (l b i : ℕ) → (tagTotal (defaultInstrs l b i) ≤ 27) × (length (defaultInstrs l b i) ≤ 4)
+default-size : (at l b i : ℕ) → (tagTotal (defaultInstrs at l b i) ≤ 27) × (length (defaultInstrs at l b i) ≤ 4)
 unfolding defaultInstrs
-default-size l zero i = (omega (arith, sized), omega arith)
-default-size l (suc zero) i = (omega (arith, sized), omega arith)
-default-size l (suc (suc zero)) i = (omega (arith, sized), omega arith)
-default-size l (suc (suc (suc zero))) i = (omega (arith, sized), omega arith)
-default-size l (suc (suc (suc (suc zero)))) i = (omega (arith, sized), omega arith)
-default-size l (suc (suc (suc (suc (suc b))))) i = let q = primitive-size (suc (suc (suc (suc (suc b)))) - 5) i in (omega (arith, sized), omega arith)
+default-size at l zero i = (omega (arith, sized), omega arith)
+default-size at l (suc zero) i = (omega (arith, sized), omega arith)
+default-size at l (suc (suc zero)) i = (omega (arith, sized), omega arith)
+default-size at l (suc (suc (suc zero))) i = (omega (arith, sized), omega arith)
+default-size at l (suc (suc (suc (suc zero)))) i = (omega (arith, sized), omega arith)
+default-size at l (suc (suc (suc (suc (suc b))))) i = let q = primitive-size at (suc (suc (suc (suc (suc b)))) - 5) i in (omega (arith, sized), omega arith)
 
 return-size : (r : ℕ) → (sizeAfterReturn r ≤ 1) × (countReturn r ≤ 2)
 unfolding sizeAfterReturn countReturn
@@ -322,41 +322,41 @@ return-size (suc r) = (omega (arith, sized), omega arith)
 
 module _ (r : ℕ) where
   abbrev pub StmtItem : (s : List ℕ) → (ℕ → Parser Stmt) → Type 0
-  StmtItem s child = (end : ℕ) → Item s (child end) end (itemS r) (itemC r) FineStmt
+  StmtItem s child = (end : ℕ) → Narrow end → Item s (child end) end (itemS r) (itemC r) FineStmt
 
   abbrev PaysS : (s : List ℕ) → Parser Stmt → Type 0
   PaysS s p = Pays s p 40 5 (itemS r) (itemC r) FineStmt
 
 module _ (r : ℕ) (s : List ℕ) (value : ℕ → Parser Expr) (v : ExprItem s value) (child : ℕ → Parser Stmt) (h : StmtItem r s child) where
-  arm-item : (end : ℕ) → Item s (arm s value child end) end (armS r) (armC r) FineArm
+  arm-item : (end : ℕ) → Narrow end → Item s (arm s value child end) end (armS r) (armC r) FineArm
   unfolding arm _>>=_ give
-  arm-item end = record {
-    pays = over (v end .pays) λ c c′. over (run-pays s end h) λ xs xs′. let q = block-size r xs in gives (c, blockOf xs) (omega arith) λ bytes. (c′ bytes, block-fine xs (xs′ bytes .1));
+  arm-item end near = record {
+    pays = over (v end near .pays) λ c c′. over (run-pays s end near h) λ xs xs′. let q = block-size r xs in gives (c, blockOf xs) (omega arith) λ bytes. (c′ bytes, block-fine xs (xs′ bytes .1));
     within = λ at a next e.
         let p = bind-ok (value end at) (λ c mid. bind (run s end child mid) (λ b n. ok (c, blockOf b) n)) e in
         let q = bind-ok (run s end child (p .1)) (λ b n. ok (p .0, blockOf b) n) (p .3) in
         let n : q .1 ≡ next = cc in
-        rw (← n) (run-within s end h (p .1) (q .0) (q .1) (q .2));
+        rw (← n) (run-within s end near h (p .1) (q .0) (q .1) (q .2));
   }
 
-  default-pays : (end m : ℕ) → Pays s (blockIf m (run s end child)) 0 0 (λ d. sizeDefault d r) (λ d. countDefault d r) FineDefault
+  default-pays : (end : ℕ) → Narrow end → (m : ℕ) → Pays s (blockIf m (run s end child)) 0 0 (λ d. sizeDefault d r) (λ d. countDefault d r) FineDefault
   unfolding blockIf sizeDefault countDefault
-  default-pays end zero = gives absent (omega arith) λ bytes. absent-fine
-  default-pays end (suc m) = over (run-pays s end h) λ xs xs′. let q = block-size r xs in gives (present (blockOf xs)) (omega arith) λ bytes. present-fine (blockOf xs) (block-fine xs (xs′ bytes .1))
+  default-pays end near zero = gives absent (omega arith) λ bytes. absent-fine
+  default-pays end near (suc m) = over (run-pays s end near h) λ xs xs′. let q = block-size r xs in gives (present (blockOf xs)) (omega arith) λ bytes. present-fine (blockOf xs) (block-fine xs (xs′ bytes .1))
 
-  module _ (at end : ℕ) where
+  module _ (at end : ℕ) (z : at ≤ end) (near : Narrow end) where
     expr-pays : PaysS r s (asExpr value at end)
     unfolding asExpr sizeStmt countStmt lowerStmt
-    expr-pays = over (v end .pays) λ e e′. gives (expr at e) (omega arith) λ bytes span k. e′ bytes
+    expr-pays = over (v end near .pays) λ e e′. gives (expr at e) (omega arith) λ bytes span k. e′ bytes
 
     block-pays : PaysS r s (asBlock s child at end)
     unfolding asBlock sizeStmt countStmt lowerStmt
-    block-pays = over (run-pays s end h) λ xs xs′. let q = block-size r xs in gives (block at (blockOf xs)) (omega arith) λ bytes. block-fine xs (xs′ bytes .1)
+    block-pays = over (run-pays s end near h) λ xs xs′. let q = block-size r xs in gives (block at (blockOf xs)) (omega arith) λ bytes. block-fine xs (xs′ bytes .1)
 
     while-pays : PaysS r s (asWhile s value child at end)
     unfolding asWhile sizeStmt countStmt lowerStmt unused0 rowOf rows labelLimit
     while-pays =
-        over (v end .pays) λ c c′. over (run-pays s end h) λ xs xs′. let q = block-size r xs in
+        over (v end near .pays) λ c c′. over (run-pays s end near h) λ xs xs′. let q = block-size r xs in
         gives (while at c (blockOf xs)) (omega (arith, sized)) λ bytes span k.
         labels λ l l′. labels λ m m′. seq marks (seq (carry refl (omega (arith, sized))) (seq (c′ bytes)
         (seq (block-fine xs (xs′ bytes .1) (inLoop l m span) (record { breakTarget = m′; continueTarget = l′ })) (seq (carry refl (omega (arith, sized))) marks))))
@@ -364,47 +364,47 @@ module _ (r : ℕ) (s : List ℕ) (value : ℕ → Parser Expr) (v : ExprItem s 
     branches-pay : PaysS r s (asBranches s value child at end)
     unfolding asBranches sizeStmt countStmt lowerStmt
     branches-pay =
-        over (run-pays s end arm-item) λ xs xs′. over (byteBelow-pays s at end 2) λ m m′. over (default-pays end m) λ d d′. let q = branches-size r xs in
+        over (run-pays s end near arm-item) λ xs xs′. over (byteBelow-pays s at end 2) λ m m′. over (default-pays end near m) λ d d′. let q = branches-size r xs in
         gives (branches at (branchesOf xs) d) (omega arith) λ bytes span k.
-        labels λ l l′. labels λ n n′. seq (branches-fine span k at xs l n (l′, n′) (xs′ bytes .1)) (seq (d′ bytes span k .0) marks)
+        labels λ l l′. labels λ n n′. seq (branches-fine span k at (omega arith) xs l n (l′, n′) (xs′ bytes .1)) (seq (d′ bytes at (omega arith) span k .0) marks)
 
     switch-pays : PaysS r s (asSwitch s value child at end)
     unfolding asSwitch sizeStmt countStmt lowerStmt unused0 rowOf rows labelLimit
     switch-pays =
-        over (unsigned-pays s at end 4) λ t t′. over (v end .pays) λ e e′. over (unsigned-pays s at end 4) λ i i′. over (byteBelow-pays s at end 2) λ m m′.
-        over (run-pays s end arm-item) λ xs xs′. over (default-pays end m) λ d d′. let q = switch-size r xs d i (midDefault d i (casesOf xs)) in
+        over (unsigned-pays s at end 4) λ t t′. over (v end near .pays) λ e e′. over (unsigned-pays s at end 4) λ i i′. over (byteBelow-pays s at end 2) λ m m′.
+        over (run-pays s end near arm-item) λ xs xs′. over (default-pays end near m) λ d d′. let q = switch-size r xs d i (midDefault d i (casesOf xs)) in
         gives (switch at t e i (casesOf xs) d) (omega (arith, size-limit Tag.Switch)) λ bytes span k.
         labels λ l l′. labels λ n n′. let inside = inSwitch l span in let k′ : Known inside = record { breakTarget = l′; continueTarget = k .continueTarget } in
         seq (carry refl (omega (arith, sized, t′ bytes))) (seq (e′ bytes) (seq (either (midDefault d i (casesOf xs))
         (manyLabels (lengthCases (casesOf xs)) λ body b.
-        seq (matchers-fine inside k′ at xs n body (omega (arith, length-cases xs)) (xs′ bytes .1)) (seq (bare Tag.SwitchDefault 0 0 (omega (arith, sized))) (seq (carry refl (omega (arith, sized)))
-        (bodies-fine inside k′ at xs i body (body + lengthCases (casesOf xs)) (d′ bytes inside k′ .0) (xs′ bytes .1)))))
-        (seq (cases-fine inside k′ at xs n none (n′, tt) (xs′ bytes .1)) (d′ bytes inside k′ .1))) marks))
+        seq (matchers-fine inside k′ at (omega arith) xs n body (omega (arith, length-cases xs)) (xs′ bytes .1)) (seq (bare at Tag.SwitchDefault 0 0 (omega (arith, sized))) (seq (carry refl (omega (arith, sized)))
+        (bodies-fine inside k′ at (omega arith) xs i body (body + lengthCases (casesOf xs)) (d′ bytes at (omega arith) inside k′ .0) (xs′ bytes .1)))))
+        (seq (cases-fine inside k′ at (omega arith) xs n none (n′, tt) (xs′ bytes .1)) (d′ bytes at (omega arith) inside k′ .1))) marks))
 
     initArray-pays : PaysS r s (asInitArray s value at end)
     unfolding asInitArray sizeStmt countStmt lowerStmt
     initArray-pays =
-        over (unsigned-pays s at end 4) λ l l′. over (unsigned-pays s at end 4) λ t t′. over (run-pays s end v) λ xs xs′. let q = array-size (exprsOf xs) in
-        gives (initArray at l t (exprsOf xs)) (omega (arith, el-size xs, el-count xs)) λ bytes span k. array-fine xs l t (l′ bytes, t′ bytes, xs′ bytes .0) (xs′ bytes .1)
+        over (unsigned-pays s at end 4) λ l l′. over (unsigned-pays s at end 4) λ t t′. over (run-pays s end near v) λ xs xs′. let q = array-size (exprsOf xs) in
+        gives (initArray at l t (exprsOf xs)) (omega (arith, el-size xs, el-count xs)) λ bytes span k. array-fine xs at l t (l′ bytes, t′ bytes, xs′ bytes .0, omega arith) (xs′ bytes .1)
 
     initDefault-pays : PaysS r s (asInitDefault s at end)
     unfolding asInitDefault sizeStmt countStmt lowerStmt
     initDefault-pays =
-        over (unsigned-pays s at end 4) λ l l′. over (byteBelow-pays s at end 23) λ b b′. over (unsigned-pays s at end 4) λ i i′. let q = default-size l b i in
-        gives (initDefault at l b i) (omega (arith, total-is (defaultInstrs l b i))) λ bytes span k. default-fine l b i (l′ bytes, i′ bytes)
+        over (unsigned-pays s at end 4) λ l l′. over (byteBelow-pays s at end 23) λ b b′. over (unsigned-pays s at end 4) λ i i′. let q = default-size at l b i in
+        gives (initDefault at l b i) (omega (arith, total-is (defaultInstrs at l b i))) λ bytes span k. default-fine at l b i (l′ bytes, i′ bytes, omega arith)
 
     break-pays : PaysS r s (asBreak at)
     unfolding asBreak sizeStmt countStmt lowerStmt
-    break-pays = gives (break at) (omega (arith, sized)) λ bytes span k. jumpTo-fine 10 at (span .breakTarget) (k .breakTarget)
+    break-pays = gives (break at) (omega (arith, sized)) λ bytes span k. jumpTo-fine 10 at (span .breakTarget) (omega arith) (k .breakTarget)
 
     continue-pays : PaysS r s (asContinue at)
     unfolding asContinue sizeStmt countStmt lowerStmt
-    continue-pays = gives (continue at) (omega (arith, sized)) λ bytes span k. jumpTo-fine 11 at (span .continueTarget) (k .continueTarget)
+    continue-pays = gives (continue at) (omega (arith, sized)) λ bytes span k. jumpTo-fine 11 at (span .continueTarget) (omega arith) (k .continueTarget)
 
     returnIf-pays : (m : ℕ) → Pays s (returnIf m at (value end)) 48 6 (itemS r) (itemC r) FineStmt
     unfolding returnIf sizeStmt countStmt lowerStmt
-    returnIf-pays zero = gives (returnNothing at) (omega (arith, sized)) λ bytes span k. return-nothing
-    returnIf-pays (suc m) = over (v end .pays) λ e e′. let q = return-size r in gives (return at e) (omega (arith, sized)) λ bytes span k. return-fine (span .returns) (e′ bytes)
+    returnIf-pays zero = gives (returnNothing at) (omega (arith, sized)) λ bytes span k. return-nothing at (omega arith)
+    returnIf-pays (suc m) = over (v end near .pays) λ e e′. let q = return-size r in gives (return at e) (omega (arith, sized)) λ bytes span k. return-fine at (span .returns) (omega arith) (e′ bytes)
 
     return-pays : PaysS r s (asReturn s value at end)
     unfolding asReturn
@@ -417,8 +417,8 @@ module _ (r : ℕ) (s : List ℕ) (value : ℕ → Parser Expr) (v : ExprItem s 
 
 stmt-item : (r depth : ℕ) (s : List ℕ) → StmtItem r s (parseStmt depth s)
 unfolding parseStmt
-stmt-item r zero s holder = record { pays = record { paid = λ at a next e. refused-not-ok e }; within = λ at a next e. refused-not-ok e }
-stmt-item r (suc d) s holder = node-item s holder (λ kind at end. stmt-body-pays r s (parseExpr d s) (expr-item d s) (parseStmt d s) (stmt-item r d s) at end kind)
+stmt-item r zero s holder near = record { pays = record { paid = λ at a next e. refused-not-ok e }; within = λ at a next e. refused-not-ok e }
+stmt-item r (suc d) s holder near = node-item s holder near (λ kind at end z near. stmt-body-pays r s (parseExpr d s) (expr-item d s) (parseStmt d s) (stmt-item r d s) at end z near kind)
 
 -- 5. A unit
 
@@ -451,8 +451,9 @@ unit-paid s u next e = go (frontGood s) refl e
         let r = getD s 5 0 in
         let p = bind-ok (run s (length s) (parseStmt depthLimit s) 6) (λ b. ended 6 (length s) (record { returns = r; body = blockOf b })) e in
         let t = passed (eqb (p .1) (length s)) (record { returns = r; body = blockOf (p .0) }) (p .1) 3 6 0 u next (p .3) in
-        let paid = run-pays s (length s) (stmt-item r depthLimit s) .paid 6 (p .0) (p .1) (p .2) in
-        let end = run-within s (length s) (stmt-item r depthLimit s) 6 (p .0) (p .1) (p .2) in
+        let near : Narrow (length s) = omega (arith, front-length s f) in
+        let paid = run-pays s (length s) near (stmt-item r depthLimit s) .paid 6 (p .0) (p .1) (p .2) in
+        let end = run-within s (length s) near (stmt-item r depthLimit s) 6 (p .0) (p .1) (p .2) in
         let b = block-size r (p .0) in
         rw (← t .1) (record { bytes = front-length s f; size = omega arith; count = omega arith; fine = λ bytes. block-fine (p .0) (paid .2 bytes .1) (outside r) (record { breakTarget = tt; continueTarget = tt }) })
     go false f e = refused-not-ok e

@@ -21,31 +21,31 @@ use Rattle.landing.proofs.Fits.{Fits, masked-below, plain-fits, Fine, n
 
 -- 1. Parts
 
-pub weak-fine : (weak : ℕ) → Fine (weakToRef weak)
+pub weak-fine : (at weak : ℕ) → at < 256 ^ 4 → Fine (weakToRef at weak)
 unfolding weakToRef
-weak-fine zero = nothing
-weak-fine (suc w) = bare Tag.WeakRefToRef 0 0 (omega (arith, sized))
+weak-fine at zero z = nothing
+weak-fine at (suc w) z = bare at Tag.WeakRefToRef 0 0 (omega (arith, sized))
 
-nops-fine : (ps : List ℕ) → Fine (nops ps)
+nops-fine : (at : ℕ) (ps : List ℕ) → at < 256 ^ 4 → Fine (nops at ps)
 unfolding nops
-nops-fine [] = nothing
-nops-fine (p ∷ ps) = seq (bare Tag.Nop 0 0 (omega (arith, sized))) (nops-fine ps)
+nops-fine at [] z = nothing
+nops-fine at (p ∷ ps) z = seq (bare at Tag.Nop 0 0 (omega (arith, sized))) (nops-fine at ps z)
 
-pub field-fine : (at form name : ℕ) {receiver : Code} → name < 256 ^ 4 → Fine receiver → Fine (lowerField at form name receiver)
+pub field-fine : (at form name : ℕ) {receiver : Code} → (name < 256 ^ 4) × (at < 256 ^ 4) → Fine receiver → Fine (lowerField at form name receiver)
 unfolding lowerField unused0 rowOf rows labelLimit
-field-fine at zero name h f = seq (bare Tag.StructField 0 name (omega (arith, sized))) f
+field-fine at zero name h f = seq (bare at Tag.StructField 0 name (omega (arith, sized))) f
 field-fine at (suc weak) name h f =
-    labels λ l k. seq (carry refl (omega (arith, sized))) (seq (weak-fine weak) (seq f (seq (bare Tag.ObjectField 0 name (omega (arith, sized))) marks)))
+    labels λ l k. seq (carry refl (omega (arith, sized))) (seq (weak-fine at weak (h .1)) (seq f (seq (bare at Tag.ObjectField 0 name (omega (arith, sized))) marks)))
 
-arg-fine : (at p : ℕ) {arg : Code} → Fine arg → Fine (lowerArg at p arg)
+arg-fine : (at p : ℕ) {arg : Code} → at < 256 ^ 4 → Fine arg → Fine (lowerArg at p arg)
 unfolding lowerArg unused0 rowOf rows labelLimit
-arg-fine at zero f = f
-arg-fine at (suc p) f = labels λ l k. seq (carry refl (omega (arith, sized))) (seq f marks)
+arg-fine at zero z f = f
+arg-fine at (suc p) z f = labels λ l k. seq (carry refl (omega (arith, sized))) (seq f marks)
 
-invoke-fine : (b exit line flags function name : ℕ) → (exit < 65536) × (line < 65536) × (flags < 65536) × (function < 256 ^ 4) × (name < 256 ^ 4) → Fine (emitInvoke b exit line flags function name)
+invoke-fine : (at b exit line flags function name : ℕ) → (exit < 65536) × (line < 65536) × (flags < 65536) × (function < 256 ^ 4) × (name < 256 ^ 4) × (at < 256 ^ 4) → Fine (emitInvoke at b exit line flags function name)
 unfolding emitInvoke unused0 rowOf rows
-invoke-fine zero exit line flags function name h = carry refl (omega (arith, sized))
-invoke-fine (suc b) exit line flags function name h = carry refl (omega (arith, sized))
+invoke-fine at zero exit line flags function name h = carry refl (omega (arith, sized))
+invoke-fine at (suc b) exit line flags function name h = carry refl (omega (arith, sized))
 
 -- what a call stores fits
 pub record CalleeFits (c : Callee) : Type 0 where
@@ -53,10 +53,10 @@ pub record CalleeFits (c : Callee) : Type 0 where
   pub name : c .name < 256 ^ 4
   pub line : c .line < 65536
 
-pub call-fine : (at : ℕ) (c : Callee) (args : Exprs) {code : Code} → CalleeFits c → Fine code → Fine (emitCall at c args code)
+pub call-fine : (at : ℕ) (c : Callee) (args : Exprs) {code : Code} → at < 256 ^ 4 → CalleeFits c → Fine code → Fine (emitCall at c args code)
 unfolding emitCall labelLimit
-call-fine at c args h f =
-    labels λ exit l. flagged args λ few. seq (invoke-fine (c .flags) _ _ _ _ _ (omega arith)) (seq f (seq (bare Tag.ParamEnd 0 0 (omega (arith, sized))) marks))
+call-fine at c args z h f =
+    labels λ exit l. flagged args λ few. seq (invoke-fine at (c .flags) _ _ _ _ _ (omega arith)) (seq f (seq (bare at Tag.ParamEnd 0 0 (omega (arith, sized))) marks))
 
 -- 2. Expressions that are read
 
@@ -68,65 +68,65 @@ unfolding lowerExpr exprsOf
 exprs-fine [] h = nothing
 exprs-fine (x ∷ xs) h = seq (h .0) (exprs-fine xs (h .1))
 
-pub args-fine : (xs : List Expr) (at : ℕ) (ps : List ℕ) → Each FineExpr xs → Fine (lowerArgs (exprsOf xs) at ps)
+pub args-fine : (xs : List Expr) (at : ℕ) (ps : List ℕ) → at < 256 ^ 4 → Each FineExpr xs → Fine (lowerArgs (exprsOf xs) at ps)
 unfolding lowerExpr exprsOf
-args-fine [] at ps h = nops-fine ps
-args-fine (x ∷ xs) at [] h = seq (h .0) (args-fine xs at [] (h .1))
-args-fine (x ∷ xs) at (p ∷ ps) h = seq (arg-fine at p (h .0)) (args-fine xs at ps (h .1))
+args-fine [] at ps z h = nops-fine at ps z
+args-fine (x ∷ xs) at [] z h = seq (h .0) (args-fine xs at [] z (h .1))
+args-fine (x ∷ xs) at (p ∷ ps) z h = seq (arg-fine at p z (h .0)) (args-fine xs at ps z (h .1))
 
-elements-fine : (xs : List Expr) (l t i : ℕ) → (l < 256 ^ 4) × (t < 256 ^ 4) × (i + length xs < 256 ^ 4) → Each FineExpr xs → Fine (lowerElements (exprsOf xs) l t i)
+elements-fine : (xs : List Expr) (at l t i : ℕ) → (l < 256 ^ 4) × (t < 256 ^ 4) × (i + length xs < 256 ^ 4) × (at < 256 ^ 4) → Each FineExpr xs → Fine (lowerElements (exprsOf xs) at l t i)
 unfolding lowerElements exprsOf
-elements-fine [] l t i w h = nothing
-elements-fine (x ∷ xs) l t i w h =
-    seq (straight _ (plain-fits Tag.Assign 0 0 (omega (arith, sized)), (plain-fits Tag.ArrayElement 0 t (omega (arith, sized)), (plain-fits Tag.Local 0 l (omega (arith, sized)), (plain-fits Tag.U64Const 0 i (omega (arith, sized)), tt)))))
-    (seq (h .0) (elements-fine xs l t (i + 1) (omega arith) (h .1)))
+elements-fine [] at l t i w h = nothing
+elements-fine (x ∷ xs) at l t i w h =
+    seq (straight _ (plain-fits at Tag.Assign 0 0 (omega (arith, sized)), (plain-fits at Tag.ArrayElement 0 t (omega (arith, sized)), (plain-fits at Tag.Local 0 l (omega (arith, sized)), (plain-fits at Tag.U64Const 0 i (omega (arith, sized)), tt)))))
+    (seq (h .0) (elements-fine xs at l t (i + 1) (omega arith) (h .1)))
 
-pub array-fine : (xs : List Expr) (l t : ℕ) → (l < 256 ^ 4) × (t < 256 ^ 4) × (length xs < 256 ^ 4) → Each FineExpr xs → Fine (lowerArray (exprsOf xs) l t)
+pub array-fine : (xs : List Expr) (at l t : ℕ) → (l < 256 ^ 4) × (t < 256 ^ 4) × (length xs < 256 ^ 4) × (at < 256 ^ 4) → Each FineExpr xs → Fine (lowerArray (exprsOf xs) at l t)
 unfolding lowerArray exprsOf
-array-fine [] l t w h = nothing
-array-fine (x ∷ xs) l t w h =
-    seq (straight _ (plain-fits Tag.ArrayResize 0 t (omega (arith, sized)), (plain-fits Tag.Local 0 l (omega (arith, sized)), (plain-fits Tag.U64Const 0 _ (omega (arith, sized, length-exprs xs)), tt))))
-    (elements-fine (x ∷ xs) l t 0 (omega arith) h)
+array-fine [] at l t w h = nothing
+array-fine (x ∷ xs) at l t w h =
+    seq (straight _ (plain-fits at Tag.ArrayResize 0 t (omega (arith, sized)), (plain-fits at Tag.Local 0 l (omega (arith, sized)), (plain-fits at Tag.U64Const 0 _ (omega (arith, sized, length-exprs xs)), tt))))
+    (elements-fine (x ∷ xs) at l t 0 (omega arith) h)
 
 -- 3. Statements that are read
 
-value-fits : (k i : ℕ) → i < 256 ^ 4 → Each Fits (primitiveDefault k i)
+value-fits : (at k i : ℕ) → (i < 256 ^ 4) × (at < 256 ^ 4) → Each Fits (primitiveDefault at k i)
 unfolding primitiveDefault
-value-fits k i h = go (ltb k 17) (ltb k 4)
+value-fits at k i h = go (ltb k 17) (ltb k 4)
   where
-    go : (b c : Bool) → Each Fits (cond b (plain (getD defaultTags k Tag.Nop) 0 (cond c i 0) ∷ []) [])
-    go true c = (plain-fits (getD defaultTags k Tag.Nop) 0 (cond c i 0) (primitive-plain k .sized, omega arith, omega (arith, masked-below c i (256 ^ 4) h)), tt)
+    go : (b c : Bool) → Each Fits (cond b (plain at (getD defaultTags k Tag.Nop) 0 (cond c i 0) ∷ []) [])
+    go true c = (plain-fits at (getD defaultTags k Tag.Nop) 0 (cond c i 0) (primitive-plain k .sized, omega arith, omega (arith, masked-below c i (256 ^ 4) (h .0)), h .1), tt)
     go false c = tt
 
-default-fits : (l b i : ℕ) → (l < 256 ^ 4) × (i < 256 ^ 4) → Each Fits (defaultInstrs l b i)
+default-fits : (at l b i : ℕ) → (l < 256 ^ 4) × (i < 256 ^ 4) × (at < 256 ^ 4) → Each Fits (defaultInstrs at l b i)
 unfolding defaultInstrs
-default-fits l b i w = go b
+default-fits at l b i w = go b
   where
-    assign : Fits (plain Tag.Assign 0 0)
-    assign = plain-fits Tag.Assign 0 0 (omega (arith, sized))
+    assign : Fits (plain at Tag.Assign 0 0)
+    assign = plain-fits at Tag.Assign 0 0 (omega (arith, sized))
 
-    to : Fits (plain Tag.Local 0 l)
-    to = plain-fits Tag.Local 0 l (omega (arith, sized))
+    to : Fits (plain at Tag.Local 0 l)
+    to = plain-fits at Tag.Local 0 l (omega (arith, sized))
 
-    go : (b : ℕ) → Each Fits (defaultInstrs l b i)
+    go : (b : ℕ) → Each Fits (defaultInstrs at l b i)
     go zero = tt
-    go (suc zero) = (plain-fits Tag.ArrayClear 0 i (omega (arith, sized)), (to, tt))
-    go (suc (suc zero)) = (assign, (to, (plain-fits Tag.Construct 0 i (omega (arith, sized)), tt)))
-    go (suc (suc (suc zero))) = (assign, (to, (plain-fits Tag.Null 0 0 (omega (arith, sized)), tt)))
-    go (suc (suc (suc (suc zero)))) = (assign, (to, (plain-fits Tag.I32ToEnum 1 i (omega (arith, sized)), (plain-fits Tag.I8Const 0 0 (omega (arith, sized)), tt))))
-    go (suc (suc (suc (suc (suc b))))) = (assign, (to, value-fits _ i (w .1)))
+    go (suc zero) = (plain-fits at Tag.ArrayClear 0 i (omega (arith, sized)), (to, tt))
+    go (suc (suc zero)) = (assign, (to, (plain-fits at Tag.Construct 0 i (omega (arith, sized)), tt)))
+    go (suc (suc (suc zero))) = (assign, (to, (plain-fits at Tag.Null 0 0 (omega (arith, sized)), tt)))
+    go (suc (suc (suc (suc zero)))) = (assign, (to, (plain-fits at Tag.I32ToEnum 1 i (omega (arith, sized)), (plain-fits at Tag.I8Const 0 0 (omega (arith, sized)), tt))))
+    go (suc (suc (suc (suc (suc b))))) = (assign, (to, value-fits at _ i (w .1, w .2)))
 
-pub default-fine : (l b i : ℕ) → (l < 256 ^ 4) × (i < 256 ^ 4) → Fine (emits (defaultInstrs l b i))
-default-fine l b i w = straight (defaultInstrs l b i) (default-fits l b i w)
+pub default-fine : (at l b i : ℕ) → (l < 256 ^ 4) × (i < 256 ^ 4) × (at < 256 ^ 4) → Fine (emits (defaultInstrs at l b i))
+default-fine at l b i w = straight (defaultInstrs at l b i) (default-fits at l b i w)
 
-pub return-nothing : Fine lowerReturnNothing
+pub return-nothing : (at : ℕ) → at < 256 ^ 4 → Fine (lowerReturnNothing at)
 unfolding lowerReturnNothing
-return-nothing = seq (bare Tag.Return 0 0 (omega (arith, sized))) (bare Tag.Nop 0 0 (omega (arith, sized)))
+return-nothing at z = seq (bare at Tag.Return 0 0 (omega (arith, sized))) (bare at Tag.Nop 0 0 (omega (arith, sized)))
 
-pub return-fine : (returns : ℕ) {value : Code} → Fine value → Fine (lowerReturn returns value)
+pub return-fine : (at returns : ℕ) {value : Code} → at < 256 ^ 4 → Fine value → Fine (lowerReturn at returns value)
 unfolding lowerReturn lowerReturnNothing
-return-fine zero f = seq f return-nothing
-return-fine (suc r) f = seq (bare Tag.Return 0 0 (omega (arith, sized))) f
+return-fine at zero z f = seq f (return-nothing at z)
+return-fine at (suc r) z f = seq (bare at Tag.Return 0 0 (omega (arith, sized))) f
 
 -- a label that is made is below the limit, if there is one
 abbrev Near : Option ℕ → Type 0
@@ -137,10 +137,10 @@ pub record Known (span : BlockSpan) : Type 0 where
   pub breakTarget : Near (span .breakTarget)
   pub continueTarget : Near (span .continueTarget)
 
-pub jumpTo-fine : (number at : ℕ) (l : Option ℕ) → Near l → Fine (jumpTo number at l)
+pub jumpTo-fine : (number at : ℕ) (l : Option ℕ) → at < 256 ^ 4 → Near l → Fine (jumpTo number at l)
 unfolding jumpTo unused0 rowOf rows labelLimit
-jumpTo-fine number at none h = refuses
-jumpTo-fine number at (some l) h = carry refl (omega (arith, sized))
+jumpTo-fine number at none z h = refuses
+jumpTo-fine number at (some l) z h = carry refl (omega (arith, sized))
 
 abbrev pub FineStmt : Stmt → Type 0
 FineStmt x = (span : BlockSpan) → Known span → Fine (lowerStmt x span)
@@ -151,9 +151,9 @@ FineBlock b = (span : BlockSpan) → Known span → Fine (lowerBlock b span)
 abbrev pub FineArm : Expr × Block → Type 0
 FineArm x = FineExpr (x .0) × FineBlock (x .1)
 
--- as the default of Branches, and as the last of a Switch
+-- as the default of Branches, and as the last of a Switch at `at`
 abbrev pub FineDefault : Default → Type 0
-FineDefault d = (span : BlockSpan) → Known span → Fine (lowerDefault d span) × Fine (lowerLast d span)
+FineDefault d = (at : ℕ) → at < 256 ^ 4 → (span : BlockSpan) → Known span → Fine (lowerDefault d span) × Fine (lowerLast d at span)
 
 pub block-fine : (xs : List Stmt) → Each FineStmt xs → FineBlock (blockOf xs)
 unfolding lowerStmt blockOf
@@ -162,13 +162,13 @@ block-fine (x ∷ xs) h span k = seq (h .0 span k) (block-fine xs (h .1) span k)
 
 pub absent-fine : FineDefault absent
 unfolding lowerStmt
-absent-fine span k = (nothing, nothing)
+absent-fine at z span k = (nothing, nothing)
 
 pub present-fine : (b : Block) → FineBlock b → FineDefault (present b)
 unfolding lowerStmt
-present-fine b h span k = (h span k, seq (bare Tag.SwitchDefault 0 0 (omega (arith, sized))) (h span k))
+present-fine b h at z span k = (h span k, seq (bare at Tag.SwitchDefault 0 0 (omega (arith, sized))) (h span k))
 
-module _ (span : BlockSpan) (known : Known span) (at : ℕ) where
+module _ (span : BlockSpan) (known : Known span) (at : ℕ) (z : at < 256 ^ 4) where
   pub branches-fine : (xs : List (Expr × Block)) (next exit : ℕ) → (next < labelLimit) × (exit < labelLimit) → Each FineArm xs → Fine (lowerBranches (branchesOf xs) at next exit span)
   unfolding lowerStmt branchesOf unused0 rowOf rows labelLimit
   branches-fine [] next exit w h = nothing

@@ -60,7 +60,7 @@ record-resolves : (marks : List ℕ) (o k : ℕ) (i : Instr) (ds : List ℤ) →
     let es = also s (subℕ (markIn marks (i .second)) o) ds in
     let all = also f (subℕ (markIn marks (i .first)) o) es in
     resolveRecord marks o k i ≡ unlessFar (orElse (farField f k 0 all) (farField s k 1 es))
-    (record { tag = i .tag; small = i .small; first = filledField f (i .first) all; second = filledField s (i .second) es; line = i .line; flags = i .flags; value = i .value })
+    (record { tag = i .tag; small = i .small; first = filledField f (i .first) all; second = filledField s (i .second) es; line = i .line; flags = i .flags; value = i .value; node = i .node })
 unfolding resolveRecord
 record-resolves marks o k i ds h g =
     let f = rowOf (i .tag) .first in

@@ -25,28 +25,28 @@ use Rattle.landing.proofs.Exprs.{landExpr, landArray}
 
 -- 1. Statements without blocks
 
-value-plain : (k i : ℕ) → AllPlain (primitiveDefault k i)
+value-plain : (at k i : ℕ) → AllPlain (primitiveDefault at k i)
 unfolding primitiveDefault
-value-plain k i = go (ltb k 17) (cond (ltb k 4) i 0)
+value-plain at k i = go (ltb k 17) (cond (ltb k 4) i 0)
   where
-    go : (b : Bool) (v : ℕ) → AllPlain (cond b (Rattle.definitions.specs.Instr.plain (getD defaultTags k Tag.Nop) 0 v ∷ []) [])
+    go : (b : Bool) (v : ℕ) → AllPlain (cond b (Rattle.definitions.specs.Instr.plain at (getD defaultTags k Tag.Nop) 0 v ∷ []) [])
     go true v = (primitive-plain k .carries, tt)
     go false v = tt
 
-default-plain : (l b i : ℕ) → AllPlain (defaultInstrs l b i)
+default-plain : (at l b i : ℕ) → AllPlain (defaultInstrs at l b i)
 unfolding defaultInstrs rowOf rows
-default-plain l zero i = tt
-default-plain l (suc zero) i = ((refl, refl), ((refl, refl), tt))
-default-plain l (suc (suc zero)) i = ((refl, refl), ((refl, refl), ((refl, refl), tt)))
-default-plain l (suc (suc (suc zero))) i = ((refl, refl), ((refl, refl), ((refl, refl), tt)))
-default-plain l (suc (suc (suc (suc zero)))) i = ((refl, refl), ((refl, refl), ((refl, refl), ((refl, refl), tt))))
-default-plain l (suc (suc (suc (suc (suc b))))) i = ((refl, refl), ((refl, refl), value-plain _ i))
+default-plain at l zero i = tt
+default-plain at l (suc zero) i = ((refl, refl), ((refl, refl), tt))
+default-plain at l (suc (suc zero)) i = ((refl, refl), ((refl, refl), ((refl, refl), tt)))
+default-plain at l (suc (suc (suc zero))) i = ((refl, refl), ((refl, refl), ((refl, refl), tt)))
+default-plain at l (suc (suc (suc (suc zero)))) i = ((refl, refl), ((refl, refl), ((refl, refl), ((refl, refl), tt))))
+default-plain at l (suc (suc (suc (suc (suc b))))) i = ((refl, refl), ((refl, refl), value-plain at _ i))
 
-landReturn : {M : ℕ → ℕ} {o n : ℕ} {s c : ℕ} {ds : List ℤ} (returns : ℕ) (p : Code) → ((o n : ℕ) → Whole M o n p s c ds) →
-    Whole M o n (lowerReturn returns p) (Return + s + sizeAfterReturn returns) (c + countReturn returns) ds
+landReturn : {M : ℕ → ℕ} {o n : ℕ} {s c : ℕ} {ds : List ℤ} (at returns : ℕ) (p : Code) → ((o n : ℕ) → Whole M o n p s c ds) →
+    Whole M o n (lowerReturn at returns p) (Return + s + sizeAfterReturn returns) (c + countReturn returns) ds
 unfolding lowerReturn sizeAfterReturn countReturn rowOf rows
-landReturn zero p f = close (last (f _ _) (seq (plain (refl, refl)) (plain (refl, refl)))) refl (omega arith)
-landReturn (suc r) p f = close (seq (plain (refl, refl)) (f _ _)) refl (omega arith)
+landReturn at zero p f = close (last (f _ _) (seq (plain (refl, refl)) (plain (refl, refl)))) refl (omega arith)
+landReturn at (suc r) p f = close (seq (plain (refl, refl)) (f _ _)) refl (omega arith)
 
 -- 2. Break and continue
 
@@ -125,7 +125,7 @@ landMid : {M : ℕ → ℕ} {o n : ℕ} (cs : Cases) (at first defaultIndex D K 
     ((o n′ before after : ℕ) → Piece M o n′ (lowerBodies cs defaultIndex n (n + lengthCases cs) default scope) (sizeBlocks cs defaultIndex D r) (countBlocks cs defaultIndex K r) [] ((n + lengthCases cs) ∷ range n (lengthCases cs)) ((n + lengthCases cs < n′) × (n + lengthCases cs ≤ n′))
     ((B ≡ o + sizeBlocks cs defaultIndex D r + after) × (C + before ≡ o)) (Bodies M cs defaultIndex D r n (n + lengthCases cs) o) (before + sizeBlocks cs defaultIndex D r ≤ X) (distBlocks cs defaultIndex r D dd before after)) →
     Piece M o n
-    (label at λ body. many at (lengthCases cs) (lowerMatchers cs at first body then instr Tag.SwitchDefault 0 then jump Tag.Jump (body + lengthCases cs) then lowerBodies cs defaultIndex body (body + lengthCases cs) default scope))
+    (label at λ body. many at (lengthCases cs) (lowerMatchers cs at first body then instr at Tag.SwitchDefault 0 then jump at Tag.Jump (body + lengthCases cs) then lowerBodies cs defaultIndex body (body + lengthCases cs) default scope))
     (sizeMatchers cs + SwitchDefault + Jump + sizeBlocks cs defaultIndex D r) (2 + countMatchers cs + countBlocks cs defaultIndex K r) [] (first ∷ []) (first < n)
     ((B ≡ o + (sizeMatchers cs + SwitchDefault + Jump + sizeBlocks cs defaultIndex D r) + 0) × (C + before ≡ o)) (M first ≡ o) (before + (sizeMatchers cs + SwitchDefault + Jump + sizeBlocks cs defaultIndex D r) ≤ X)
     (distMatchers cs defaultIndex D (SwitchDefault + Jump) r and ahead (Jump + toDefault cs defaultIndex r) ∷ distBlocks cs defaultIndex r D dd (before + sizeMatchers cs + SwitchDefault + Jump) 0)
@@ -154,7 +154,7 @@ landCase : {M : ℕ → ℕ} {o n : ℕ} (m : Expr) (b : Block) (cs : Cases) (at
     ((o n next before after : ℕ) → Piece M o n (lowerCases cs at next none scope) (sizeCases cs r) (countCases cs r) [] (next ∷ []) (next < n) ((B ≡ o + sizeCases cs r + after) × (C + before ≡ o)) (M next ≡ o) (before + sizeCases cs r ≤ X) (distCases cs r before after)) →
     ((o n next before after : ℕ) → Piece M o n (lowerCases cs at next (some body) scope) (sizeCases cs r) (countCases cs r) [] (next ∷ body ∷ []) ((next < n) × (body < n)) ((B ≡ o + sizeCases cs r + after) × (C + before ≡ o)) ((M next ≡ o) × Joined M cs body o) (before + sizeCases cs r ≤ X) (distCases cs r before after)) →
     Piece M o n
-    (act (mark next) then label at λ next′. jumps Tag.SwitchLabel next′ body then lowerExpr m then
+    (act (mark next) then label at λ next′. jumps at Tag.SwitchLabel next′ body then lowerExpr m then
     cond (endsGroup b cs) (act (mark body) then lowerBlock b scope then lowerCases cs at next′ none scope) (lowerCases cs at next′ (some body) scope))
     (sizeCases (ccons m b cs) r) (countCases (ccons m b cs) r) [] (next ∷ body ∷ []) ((next < n) × (body < n)) ((B ≡ o + sizeCases (ccons m b cs) r + after) × (C + before ≡ o)) ((M next ≡ o) × (M body ≡ o + toBody (ccons m b cs)))
     (before + sizeCases (ccons m b cs) r ≤ X) (distCases (ccons m b cs) r before after)
@@ -196,12 +196,12 @@ mutual
       (λ q. landMid cs at (n + 1) defaultIndex (sizeDefault d r) (countDefault d r) r (lowerDefault d (inSwitch n scope)) (λ before after. distDefault d r before after) (inSwitch n scope) (M n) C X (before + Switch + sizeExpr e) (mid-index d defaultIndex cs q)
       (λ o n′ before after. landBodies cs defaultIndex _ _ (lowerDefault d (inSwitch n scope)) (inSwitch n scope) (M n) C X (sizeDefault d r) (countDefault d r) (λ before after. distDefault d r before after) before after h′ (λ o′ n′ before after. landDefault d (inSwitch n scope) (M n) C X before after h′)))
       (λ q. close {s′ = sizeCases cs r + sizeLast d r} {c′ = countCases cs r + countLast d r} {ds′ = distCases cs r (before + Switch + sizeExpr e) (sizeLast d r) and distLast d r (before + Switch + sizeExpr e + sizeCases cs r) 0}
-      (seq (landCases cs at (n + 1) (inSwitch n scope) (M n) C X _ _ h′) (landLast d (inSwitch n scope) (M n) C X _ _ h′)) refl (omega arith)))))))) refl (omega arith)
-  landStmt (initArray at l t es) scope B C X before after h = close (landArray es l t) refl (omega arith)
-  landStmt (initDefault at l b i) scope B C X before after h = close (straight (defaultInstrs l b i) (default-plain l b i)) refl (omega (arith, total-is (defaultInstrs l b i)))
+      (seq (landCases cs at (n + 1) (inSwitch n scope) (M n) C X _ _ h′) (landLast d at (inSwitch n scope) (M n) C X _ _ h′)) refl (omega arith)))))))) refl (omega arith)
+  landStmt (initArray at l t es) scope B C X before after h = close (landArray es at l t) refl (omega arith)
+  landStmt (initDefault at l b i) scope B C X before after h = close (straight (defaultInstrs at l b i) (default-plain at l b i)) refl (omega (arith, total-is (defaultInstrs at l b i)))
   landStmt (break at) scope B C X before after h = landBreak 10 at (scope .breakTarget) B C X before after (h .breakTarget)
   landStmt (continue at) scope B C X before after h = landContinue 11 at (scope .continueTarget) B C X before after (h .continueTarget) (h .limit)
-  landStmt (return at e) scope B C X before after h = close (landReturn (scope .returns) (lowerExpr e) (λ o n. landExpr e)) refl (omega arith)
+  landStmt (return at e) scope B C X before after h = close (landReturn at (scope .returns) (lowerExpr e) (λ o n. landExpr e)) refl (omega arith)
   landStmt (returnNothing at) scope B C X before after h = close (seq (plain (refl, refl)) (plain (refl, refl))) refl (omega arith)
 
   pub landBodies : {M : ℕ → ℕ} {o n : ℕ} (cs : Cases) (defaultIndex body dflt : ℕ) (default : Code) (scope : BlockSpan) (B C X D K : ℕ) (dd : (before after : ℕ) → List ℤ) (before after : ℕ) → Targets M scope B C X →
@@ -244,10 +244,10 @@ mutual
       (λ o n next before after. landCases cs at next scope B C X before after h)
       (λ o n next before after. landJoined cs at next body scope B C X before after h)
 
-  pub landLast : {M : ℕ → ℕ} {o n : ℕ} (d : Default) (scope : BlockSpan) (B C X before after : ℕ) → Targets M scope B C X →
-      Inside M o n B C X (lowerLast d scope) (sizeLast d (scope .returns)) (countLast d (scope .returns)) before after (distLast d (scope .returns) before after)
-  landLast absent scope B C X before after h = close nothing refl (omega arith)
-  landLast (present b) scope B C X before after h = close (seq (plain (refl, refl)) (landBlock b scope B C X _ _ h)) refl (omega arith)
+  pub landLast : {M : ℕ → ℕ} {o n : ℕ} (d : Default) (at : ℕ) (scope : BlockSpan) (B C X before after : ℕ) → Targets M scope B C X →
+      Inside M o n B C X (lowerLast d at scope) (sizeLast d (scope .returns)) (countLast d (scope .returns)) before after (distLast d (scope .returns) before after)
+  landLast absent at scope B C X before after h = close nothing refl (omega arith)
+  landLast (present b) at scope B C X before after h = close (seq (plain (refl, refl)) (landBlock b scope B C X _ _ h)) refl (omega arith)
 
   pub landBranches : {M : ℕ → ℕ} {o n : ℕ} (bs : Branches) (at next exit : ℕ) (scope : BlockSpan) (B C X rest before after : ℕ) → Targets M scope B C X →
       Piece M o n (lowerBranches bs at next exit scope) (sizeBranches bs (scope .returns)) (countBranches bs (scope .returns)) [] (next ∷ []) (next < n)

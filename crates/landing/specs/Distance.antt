@@ -180,7 +180,7 @@ unfoldable mutual
   sizeStmt (switch at type e defaultIndex cs d) r =
       Switch + sizeExpr e + cond (midDefault d defaultIndex cs) (sizeMatchers cs + SwitchDefault + Jump + sizeBlocks cs defaultIndex (sizeDefault d r) r) (sizeCases cs r + sizeLast d r)
   sizeStmt (initArray at l t es) r = sizeArray es
-  sizeStmt (initDefault at l b i) r = totalSize (defaultInstrs l b i)
+  sizeStmt (initDefault at l b i) r = totalSize (defaultInstrs at l b i)
   sizeStmt (break at) r = Jump
   sizeStmt (continue at) r = Jump
   sizeStmt (return at e) r = Return + sizeExpr e + sizeAfterReturn r

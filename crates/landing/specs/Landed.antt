@@ -34,7 +34,7 @@ unfoldable pub filled : List Instr → List ℤ → List Instr
 filled [] ds = []
 filled (i ∷ is) ds =
     let es = left (rowOf (i .tag) .first) ds in
-    record { tag = i .tag; small = i .small; first = filledField (rowOf (i .tag) .first) (i .first) ds; second = filledField (rowOf (i .tag) .second) (i .second) es; line = i .line; flags = i .flags; value = i .value }
+    record { tag = i .tag; small = i .small; first = filledField (rowOf (i .tag) .first) (i .first) ds; second = filledField (rowOf (i .tag) .second) (i .second) es; line = i .line; flags = i .flags; value = i .value; node = i .node }
     ∷ filled is (left (rowOf (i .tag) .second) es)
 
 -- how many distances the records take

@@ -1,4 +1,5 @@
--- The landing table, what the landing theorem says, and what holds along a walk.
+-- The landing table, what the landing theorem says, what holds along a walk, and the nodes of a tree.
 pub mod Distance
 pub mod Landed
 pub mod Walk
+pub mod Nodes

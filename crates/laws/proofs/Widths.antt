@@ -17,6 +17,7 @@ pub record Within (i : Instr) : Type 0 where
   pub line : i .line < 256 ^ 2
   pub flags : i .flags < 256 ^ 2
   pub value : i .value < 256 ^ 8
+  pub node : i .node < 256 ^ 4
 
 abbrev pub AllWithin : List Instr → Type 0
 AllWithin [] = Unit {0}

@@ -23,22 +23,22 @@ bytes-a : Bytes unit-a
 unfolding bytes every
 bytes-a k = ltb→lt (getD unit-a k 0) 256 (at (λ x. ltb x 256) unit-a 0 tt tt k)
 
--- JumpIfFalse 1, FalseConst, Jump 1, Jump 0
+-- JumpIfFalse 1, FalseConst, Jump 1, Jump 0, emitted by the nodes at 10, 15, 26 and 10
 abbrev labelled-a : List ℕ
-labelled-a = bytes 77 0x01000000482000000100000000000000000000000000001400000000000000000000000000000000001F00000100000000000000000000000000001F0000000000000000000000000000000000
+labelled-a = bytes 93 0x01000000582000000100000000000000000000000000000000000A1400000000000000000000000000000000000000000F1F00000100000000000000000000000000000000001A1F00000000000000000000000000000000000000000A
 
 -- JumpIfFalse 10, FalseConst, Jump 6, Jump -7
 abbrev resolved-a : List ℕ
-resolved-a = bytes 77 0x01000000482000000A00000000000000000000000000001400000000000000000000000000000000001F00000600000000000000000000000000001F00FFF90000000000000000000000000000
+resolved-a = bytes 93 0x01000000582000000A00000000000000000000000000000000000A1400000000000000000000000000000000000000000F1F00000600000000000000000000000000000000001A1F00FFF900000000000000000000000000000000000A
 
 -- whatever the lent buffers hold, if they are long enough: 4 records of total size 10, and two labels, marked 0 and 10
-pub lists-a : (o m : List ℕ) → 77 ≤ length o → 2 ≤ length m → lowerTo (lowerInto unit-a (length o) (length m)) o m ≡ listed 10 2 4 (over labelled-a o) (over (0 ∷ 10 ∷ []) m)
+pub lists-a : (o m : List ℕ) → 93 ≤ length o → 2 ≤ length m → lowerTo (lowerInto unit-a (length o) (length m)) o m ≡ listed 10 2 4 (over labelled-a o) (over (0 ∷ 10 ∷ []) m)
 unfolding listingBytes recordsBytes recordBytes bytes rowOf rows
 lists-a o m h l = lists unit-a bytes-a script-a 31 reads-a listing-a lowers-a o m h l
 
 -- and that listing resolves by the whole lent table, if the buffer p is long enough
-pub resolves-a : (o m p : List ℕ) → 77 ≤ length o → 2 ≤ length m →
-    resolveTo (resolve (take 77 (over labelled-a o)) (over (0 ∷ 10 ∷ []) m) (length p)) p ≡ cond (leb 77 (length p)) (coded 4 (over resolved-a p)) (unresolved 20 0 0 p)
+pub resolves-a : (o m p : List ℕ) → 93 ≤ length o → 2 ≤ length m →
+    resolveTo (resolve (take 93 (over labelled-a o)) (over (0 ∷ 10 ∷ []) m) (length p)) p ≡ cond (leb 93 (length p)) (coded 4 (over resolved-a p)) (unresolved 20 0 0 p)
 unfolding listingBytes recordsBytes recordBytes bytes rowOf rows delivers firstFar filled left filledField farField orElse inRange word distStmt sizeStmt sizeExpr distExpr back tagSize sizes constTag
 resolves-a o m p h l =
     named unit-a bytes-a script-a 31 reads-a listing-a lowers-a o m 2 4 (over (0 ∷ 10 ∷ []) m) refl

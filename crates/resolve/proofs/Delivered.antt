@@ -30,6 +30,7 @@ use Rattle.landing.specs.Landed.{Far, filled, firstFar, unlessFar, withDistance
 use Rattle.landing.specs.Walk.{Bytes}
 use Rattle.landing.proofs.Theorem.{landing, bounded}
 use Rattle.landing.proofs.Emitted.{listing-records}
+use Rattle.landing.proofs.Nodes.{emitting-nodes, filled-nodes}
 use Rattle.resolve.proofs.Listed.{checked-is}
 use Rattle.resolve.specs.Delivered.{delivers, isCoded, Only, listingIn, Delivered}
 
@@ -200,6 +201,7 @@ delivered s o m bytes total k n out marks e =
       numbers = λ w p h. rw (resolves w p h) (far-numbers far n code p);
       all = l .all;
       lands = l .lands;
+      nodes = (emitting-nodes u t (d .lowers), filled-nodes u (t .instrs) (distancesOf u) (emitting-nodes u t (d .lowers)));
     }
 
 -- so resolving what lowering left is the definition's stage, and 20 where the room is short

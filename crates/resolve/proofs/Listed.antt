@@ -59,7 +59,7 @@ record-fits marks o k i r e w =
     let f = field-fits (rowOf (i .tag) .first) marks o k 0 (i .first) (a .0) (a .1) (w .first) in
     let s = field-fits (rowOf (i .tag) .second) marks o k 1 (i .second) (b .0) (b .1) (w .second) in
     rw (← (made-is (b .2))) (
-      record { tag = w .tag; small = w .small; first = f .width; second = s .width; line = w .line; flags = w .flags; value = w .value },
+      record { tag = w .tag; small = w .small; first = f .width; second = s .width; line = w .line; flags = w .flags; value = w .value; node = w .node },
       rw (f .alike, s .alike),
     )
 
@@ -95,6 +95,7 @@ record-within s b at = record {
   line = number-fits 2 s (at + 6) b;
   flags = number-fits 2 s (at + 8) b;
   value = number-fits 8 s (at + 10) b;
+  node = number-fits 4 s (at + 18) b;
 }
 
 records-within : (s : List ℕ) → Bytes s → (n at : ℕ) → AllWithin (recordsFrom n s at)

@@ -7,7 +7,7 @@ use mathlib.Core.Option.{none, some}
 use native.Mathlib.Omega.{arith}
 use native.Mathlib.Nat.{add-zero}
 use lib.Dec.{leb, ltb, lit≤}
-use lib.ListN.{length, getD, drop, replicate, length-append, length-replicate}
+use lib.ListN.{length, getD, drop, length-append}
 use lib.Seq.{getD-drop, drop-drop, append-snoc}
 use lib.IntN.{ℤ, pos, negsuc}
 use borrow.Author.Tests.{ltb-true, le-leb, lt-ltb, le-ltb, leb-true, leb-false, eq-eqb}
@@ -226,19 +226,27 @@ module _ (s : List ℕ) (n : ℕ) (k : Shaped s n) where
 
 -- 5. Lowered
 
-abbrev nopRecord : Instr
-nopRecord = plain Tag.Nop 0 0
+-- the Nops of n statements, the first at place `at`
+unfoldable pub nopRecords : (at n : ℕ) → List Instr
+nopRecords at zero = []
+nopRecords at (suc n) = plain (at + 5) Tag.Nop 0 0 ∷ nopRecords (at + 10) n
+
+nops-count : (at n : ℕ) → length (nopRecords at n) ≡ n
+unfolding nopRecords
+nops-count at zero = refl
+nops-count at (suc n) = ap suc (nops-count (at + 10) n)
 
 -- JumpIfFalse, false, n Nops, Jump
 unfoldable pub codeWith : (first back n : ℕ) → List Instr
-codeWith first back n = jump Tag.JumpIfFalse first 0 0 ∷ plain Tag.FalseConst 0 0 ∷ (replicate n nopRecord ++ (jump Tag.Jump back 0 0 ∷ []))
+codeWith first back n = jump 10 Tag.JumpIfFalse first 0 0 ∷ plain 15 Tag.FalseConst 0 0 ∷ (nopRecords 26 n ++ (jump 10 Tag.Jump back 0 0 ∷ []))
 
-nops-run : (at n : ℕ) (span : BlockSpan) (t : State) → execute (lowerBlock (blockOf (nopsAt at n)) span) t ≡ made (record { offset = t .offset + n; instrs = t .instrs ++ replicate n nopRecord; marks = t .marks })
-unfolding nopsAt blockOf lowerStmt lowerExpr execute step onward size tagSize sizes rowOf rows
+nops-run : (at n : ℕ) (span : BlockSpan) (t : State) → execute (lowerBlock (blockOf (nopsAt at n)) span) t ≡ made (record { offset = t .offset + n; instrs = t .instrs ++ nopRecords at n; marks = t .marks })
+unfolding nopsAt nopRecords blockOf lowerStmt lowerExpr execute step onward size tagSize sizes rowOf rows
 nops-run at zero span t = rw (add-zero (t .offset), append-nil (t .instrs))
 nops-run at (suc n) span t =
     let e : t .offset + 1 + n ≡ t .offset + suc n = omega arith in
-    nops-run (at + 10) n span (emitRecord nopRecord t) ∙ rw (e, append-snoc (t .instrs) nopRecord (replicate n nopRecord))
+    let i = plain (at + 5) Tag.Nop 0 0 in
+    nops-run (at + 10) n span (emitRecord i t) ∙ rw (e, append-snoc (t .instrs) i (nopRecords (at + 10) n))
 
 abbrev stateOf : (n : ℕ) → State
 stateOf n = record { offset = n + 7; instrs = codeWith 1 0 n; marks = 0 ∷ (n + 7) ∷ [] }
@@ -247,8 +255,8 @@ while-lowers : (n : ℕ) → lower (whileNops n) ≡ made (stateOf n)
 unfolding codeWith lowerStmt lowerExpr execute step onward checked unmarked labelLimit constTag size tagSize sizes rowOf rows
 while-lowers n =
     let e : 4 + n + 3 ≡ n + 7 = omega arith in
-    let t : State = record { offset = 4; instrs = jump Tag.JumpIfFalse 1 0 0 ∷ plain Tag.FalseConst 0 0 ∷ []; marks = 0 ∷ unmarked ∷ [] } in
-    ap {B = Result State} (λ r. onward (onward r (λ x. execute (Lower.jump Tag.Jump 0 then act (mark 1)) x)) (λ x. execute done x)) (nops-run 26 n (inLoop 0 1 (outside 0)) t)
+    let t : State = record { offset = 4; instrs = jump 10 Tag.JumpIfFalse 1 0 0 ∷ plain 15 Tag.FalseConst 0 0 ∷ []; marks = 0 ∷ unmarked ∷ [] } in
+    ap {B = Result State} (λ r. onward (onward r (λ x. execute (Lower.jump 10 Tag.Jump 0 then act (mark 1)) x)) (λ x. execute done x)) (nops-run 26 n (inLoop 0 1 (outside 0)) t)
     ∙ rw (e, append-assoc)
 
 -- 6. Its bytes are bytes
@@ -287,19 +295,19 @@ unit-bytes n =
 -- 7. Resolved
 
 -- Nops take no distance
-far-nops : (k n : ℕ) (is : List Instr) (ds : List ℤ) → firstFar k (replicate n nopRecord ++ is) ds ≡ firstFar (k + n) is ds
-unfolding firstFar farField left orElse rowOf rows
-far-nops k zero is ds = rw (add-zero k)
-far-nops k (suc n) is ds = let e : suc k + n ≡ k + suc n = omega arith in far-nops (suc k) n is ds ∙ rw e
+far-nops : (k at n : ℕ) (is : List Instr) (ds : List ℤ) → firstFar k (nopRecords at n ++ is) ds ≡ firstFar (k + n) is ds
+unfolding nopRecords firstFar farField left orElse rowOf rows
+far-nops k at zero is ds = rw (add-zero k)
+far-nops k at (suc n) is ds = let e : suc k + n ≡ k + suc n = omega arith in far-nops (suc k) (at + 10) n is ds ∙ rw e
 
-filled-nops : (n : ℕ) (is : List Instr) (ds : List ℤ) → filled (replicate n nopRecord ++ is) ds ≡ replicate n nopRecord ++ filled is ds
-unfolding filled filledField left rowOf rows
-filled-nops zero is ds = refl
-filled-nops (suc n) is ds = ap (λ rs. nopRecord ∷ rs) (filled-nops n is ds)
+filled-nops : (at n : ℕ) (is : List Instr) (ds : List ℤ) → filled (nopRecords at n ++ is) ds ≡ nopRecords at n ++ filled is ds
+unfolding nopRecords filled filledField left rowOf rows
+filled-nops at zero is ds = refl
+filled-nops at (suc n) is ds = ap (λ rs. plain (at + 5) Tag.Nop 0 0 ∷ rs) (filled-nops (at + 10) n is ds)
 
 while-filled : (n : ℕ) → filled (codeWith 1 0 n) (pos (n + 7) ∷ negsuc (n + 3) ∷ []) ≡ codeWith (n + 7) (65535 - (n + 3)) n
 unfolding codeWith filled filledField left word rowOf rows
-while-filled n = ap (λ rs. jump Tag.JumpIfFalse (n + 7) 0 0 ∷ plain Tag.FalseConst 0 0 ∷ rs) (filled-nops n (jump Tag.Jump 0 0 0 ∷ []) (negsuc (n + 3) ∷ []))
+while-filled n = ap (λ rs. jump 10 Tag.JumpIfFalse (n + 7) 0 0 ∷ plain 15 Tag.FalseConst 0 0 ∷ rs) (filled-nops 26 n (jump 10 Tag.Jump 0 0 0 ∷ []) (negsuc (n + 3) ∷ []))
 
 while-far : (n : ℕ) → firstFar 0 (codeWith 1 0 n) (pos (n + 7) ∷ negsuc (n + 3) ∷ []) ≡ cond (leb n 32760) none (some (record { place = 0; extra = 0; distance = pos (n + 7) }))
 unfolding codeWith firstFar farField left orElse inRange rowOf rows
@@ -308,7 +316,7 @@ while-far n = go (leb n 32760) refl
     go : (b : Bool) → leb n 32760 ≡ b → firstFar 0 (codeWith 1 0 n) (pos (n + 7) ∷ negsuc (n + 3) ∷ []) ≡ cond b none (some (record { place = 0; extra = 0; distance = pos (n + 7) }))
     go true e =
         let h = leb-true n 32760 e in
-        rw (lt-ltb (n + 7) 32768 (omega arith)) (far-nops 2 n (jump Tag.Jump 0 0 0 ∷ []) (negsuc (n + 3) ∷ []) ∙ rw (lt-ltb (n + 3) 32768 (omega arith)))
+        rw (lt-ltb (n + 7) 32768 (omega arith)) (far-nops 2 26 n (jump 10 Tag.Jump 0 0 0 ∷ []) (negsuc (n + 3) ∷ []) ∙ rw (lt-ltb (n + 3) 32768 (omega arith)))
     go false e = let h = leb-false n 32760 e in rw (le-ltb (n + 7) 32768 (omega arith))
 
 -- 8. From the unit's bytes
@@ -322,7 +330,7 @@ marksOf n m = over (0 ∷ (n + 7) ∷ []) m
 
 code-long : (first back n : ℕ) → length (codeWith first back n) ≡ n + 3
 unfolding codeWith
-code-long first back n = omega (arith, length-append (replicate n nopRecord) (jump Tag.Jump back 0 0 ∷ []), length-replicate n nopRecord)
+code-long first back n = omega (arith, length-append (nopRecords 26 n) (jump 10 Tag.Jump back 0 0 ∷ []), nops-count 26 n)
 
 module _ (n : ℕ) (few : 26 + 10 * n ≤ unitLimit) (o m : List ℕ) (long : listingLength (n + 3) ≤ length o) (wide : 2 ≤ length m) where
   -- the unit lowers, whatever n is

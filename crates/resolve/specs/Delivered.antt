@@ -15,6 +15,7 @@ use Rattle.definitions.specs.Listing.{listingLength, listingBytes, readListing}
 use Rattle.definitions.specs.Resolve.{resolve}
 use Rattle.definitions.specs.Stage.{over, Resolving, coded, unresolved, resolveTo}
 use Rattle.landing.specs.Distance.{distancesOf}
+use Rattle.landing.specs.Nodes.{EmittedBy}
 use Rattle.landing.specs.Landed.{Far, filled, labelFields, firstFar, farDistance, firstOut, allNear, AllLand}
 
 -- 1. Answers, by the landing table alone
@@ -62,3 +63,5 @@ pub record Delivered (s : List ℕ) (k n : ℕ) (out marks : List ℕ) : Type 0 
   pub all : length (distancesOf script) ≡ labelFields instrs
   -- each lands on the first byte of an instruction or on the end
   pub lands : AllLand instrs 0 instrs (distancesOf script)
+  -- the node of every record, as it is listed and as it is resolved, is the place of a node of the script
+  pub nodes : EmittedBy script instrs × EmittedBy script (filled instrs (distancesOf script))

@@ -20,7 +20,7 @@ fieldIs (field.Not q) = refusal (q .number) (q .place) (q .extra)
 
 -- a record with another first and second
 abbrev pub relabelled : Instr → (first second : ℕ) → Instr
-relabelled i f s = record { tag = i .tag; small = i .small; first = f; second = s; line = i .line; flags = i .flags; value = i .value }
+relabelled i f s = record { tag = i .tag; small = i .small; first = f; second = s; line = i .line; flags = i .flags; value = i .value; node = i .node }
 
 -- the record i, mapped
 unfoldable pub mappedIs : (i : Instr) → Mapped → Result Instr

@@ -62,27 +62,27 @@ unfolding Each lowerExpr exprsOf
 each-tame [] h = tame-done
 each-tame (x ∷ xs) h = tame-more (tame-then (h .4) (each-tame xs (h .5))) (omega (arith, h .6)) (omega (arith, h .7))
 
-weak-tame : (weak : ℕ) → Tame (weakToRef weak) weak 0
+weak-tame : (at weak : ℕ) → Tame (weakToRef at weak) weak 0
 unfolding weakToRef
-weak-tame zero = tame-done
-weak-tame (suc w) = tame-more tame-emit (omega arith) (omega arith)
+weak-tame at zero = tame-done
+weak-tame at (suc w) = tame-more tame-emit (omega arith) (omega arith)
 
 -- a field pays its form, and a label where that is not 0
 field-tame : (at form name : ℕ) {p : Code} {a b n : ℕ} → (0 < form → 0 < n) → Tame p a b → Tame (lowerField at form name p) (1 + (form + a)) (n + b)
 unfolding lowerField
 field-tame at zero name h t = tame-more (tame-then tame-emit t) (omega arith) (omega arith)
 field-tame at (suc w) name h t =
-    tame-more (tame-label (λ l. tame-then tame-emit (tame-then (weak-tame w) (tame-then t (tame-then tame-emit tame-mark))))) (omega arith) (omega (arith, h (omega arith)))
+    tame-more (tame-label (λ l. tame-then tame-emit (tame-then (weak-tame at w) (tame-then t (tame-then tame-emit tame-mark))))) (omega arith) (omega (arith, h (omega arith)))
 
-invoke-tame : (flags exit line bits function name : ℕ) → Tame (emitInvoke flags exit line bits function name) 1 0
+invoke-tame : (at flags exit line bits function name : ℕ) → Tame (emitInvoke at flags exit line bits function name) 1 0
 unfolding emitInvoke
-invoke-tame zero exit line bits function name = tame-emit
-invoke-tame (suc b) exit line bits function name = tame-emit
+invoke-tame at zero exit line bits function name = tame-emit
+invoke-tame at (suc b) exit line bits function name = tame-emit
 
 call-tame : (at : ℕ) (c : Callee) (args : Exprs) {p : Code} {a b : ℕ} → Tame (requireFlags args 0) 0 0 → Tame p a b → Tame (emitCall at c args p) (1 + (1 + a)) (1 + b)
 unfolding emitCall
 call-tame at c args f t =
-    tame-more (tame-label (λ l. tame-then f (tame-then (invoke-tame _ _ _ _ _ _) (tame-then t (tame-then tame-emit tame-mark))))) (omega arith) (omega arith)
+    tame-more (tame-label (λ l. tame-then f (tame-then (invoke-tame _ _ _ _ _ _ _) (tame-then t (tame-then tame-emit tame-mark))))) (omega arith) (omega arith)
 
 -- 3. Runs and calls
 
@@ -359,7 +359,7 @@ instance-found {d} {s} {stop} {at} {a} q x u v y (inr h) =
       records = 1 + getD s (at + 5) 0 + g .records + h .records;
       labels = 1 + (g .labels + h .labels);
       paid = (omega (arith, u, g .paid .0, h .paid .0), omega (arith, v, g .paid .1, h .paid .1));
-      tame = tame-more (tame-label (λ l. tame-then tame-emit (tame-then (weak-tame (getD s (at + 5) 0)) (tame-then (g .tame) (tame-then (h .tame at) tame-mark))))) (omega arith) (omega arith);
+      tame = tame-more (tame-label (λ l. tame-then tame-emit (tame-then (weak-tame at (getD s (at + 5) 0)) (tame-then (g .tame) (tame-then (h .tame at) tame-mark))))) (omega arith) (omega arith);
     })
 
 pub closure-found : {d : ℕ} {s : List ℕ} {stop at a r m n k l k₁ l₁ k₂ l₂ k′ l′ : ℕ} → getD s (at + 4) 0 ≡ 16 → k₁ + 2 ≡ k → l₁ + 2 ≡ l

@@ -152,14 +152,14 @@ args-more {d} {s} {stop} {first} {p} {n} {next = next} {i = i} {e = e} r h c x q
       place = (omega (arith, f .place), omega (arith, c .there));
     }
 
-nops-tame : (s : List ℕ) (p n : ℕ) → Tame (nops (marksFrom s p n)) n 0
+nops-tame : (s : List ℕ) (site p n : ℕ) → Tame (nops site (marksFrom s p n)) n 0
 unfolding nops marksFrom
-nops-tame s p zero = tame-done
-nops-tame s p (suc n) = tame-more (tame-then tame-emit (nops-tame s (p + 1) n)) (omega arith) (omega arith)
+nops-tame s site p zero = tame-done
+nops-tame s site p (suc n) = tame-more (tame-then tame-emit (nops-tame s site (p + 1) n)) (omega arith) (omega arith)
 
 args-nil : (s : List ℕ) (site p n : ℕ) → Tame (lowerArgs (exprsOf []) site (marksFrom s p n)) n 0
 unfolding lowerExpr exprsOf
-args-nil s site p n = nops-tame s p n
+args-nil s site p n = nops-tame s site p n
 
 flags-nil : (i : ℕ) → Tame (requireFlags (exprsOf []) i) 0 0
 unfolding requireFlags exprsOf

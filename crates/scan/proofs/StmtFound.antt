@@ -40,7 +40,7 @@ module _ (d : ℕ) (s : List ℕ) (stop at : ℕ) where
         records = e + x .records;
         labels = x .labels;
         paid = (omega (arith, x .paid .0, p), x .paid .1);
-        tame = λ span g. array-tame (exprsOf (x .trees)) (x .records) (x .labels) e (x .each) (λ l. let c = x .count in omega (arith, i (omega (arith, n, c, l)), n, c)) _ _;
+        tame = λ span g. array-tame (exprsOf (x .trees)) (x .records) (x .labels) e (x .each) (λ l. let c = x .count in omega (arith, i (omega (arith, n, c, l)), n, c)) _ _ _;
       }
 
   pub default-found : {k l : ℕ} (k′ : ℕ) → getD s (at + 4) 0 ≡ 7 → at + 5 + 9 ≤ stop → getD s (at + 5 + 4) 0 < 23 → k′ + defaultCount (getD s (at + 5 + 4) 0) ≡ k

@@ -19,19 +19,19 @@ use Rattle.scan.proofs.TameLaws.{tame-more, tame-done, tame-emit, tame-
 
 -- 1. Arrays
 
-elements-tame : (es : Exprs) (a b : ℕ) → Each es a b → (l t i : ℕ) → Tame (lowerElements es l t i) (4 * lengthExprs es + a) b
+elements-tame : (es : Exprs) (a b : ℕ) → Each es a b → (at l t i : ℕ) → Tame (lowerElements es at l t i) (4 * lengthExprs es + a) b
 unfolding Each lowerElements lengthExprs
-elements-tame enil a b h l t i = tame-done
-elements-tame (econs e es) a b h l t i =
+elements-tame enil a b h at l t i = tame-done
+elements-tame (econs e es) a b h at l t i =
     let (a₁, b₁, a₂, b₂, x, xs, p, q) = h in
-    tame-more (tame-then (tame-emits _) (tame-then x (elements-tame es a₂ b₂ xs l t (i + 1)))) (omega (arith, p)) (omega (arith, q))
+    tame-more (tame-then (tame-emits _) (tame-then x (elements-tame es a₂ b₂ xs at l t (i + 1)))) (omega (arith, p)) (omega (arith, q))
 
 -- three records and four for each element; for none at all nothing
-pub array-tame : (es : Exprs) (a b k : ℕ) → Each es a b → (0 < lengthExprs es → 3 + 4 * lengthExprs es ≤ k) → (l t : ℕ) → Tame (lowerArray es l t) (k + a) b
+pub array-tame : (es : Exprs) (a b k : ℕ) → Each es a b → (0 < lengthExprs es → 3 + 4 * lengthExprs es ≤ k) → (at l t : ℕ) → Tame (lowerArray es at l t) (k + a) b
 unfolding lowerArray lengthExprs
-array-tame enil a b k h i l t = tame-done
-array-tame (econs e es) a b k h i l t =
-    tame-more (tame-then (tame-emits _) (elements-tame (econs e es) a b h l t 0)) (omega (arith, i (omega arith))) (omega arith)
+array-tame enil a b k h i at l t = tame-done
+array-tame (econs e es) a b k h i at l t =
+    tame-more (tame-then (tame-emits _) (elements-tame (econs e es) a b h at l t 0)) (omega (arith, i (omega arith))) (omega arith)
 
 -- 2. Switches
 
@@ -84,7 +84,7 @@ case-tame m k cs at span a b c d e f x y rest next group = go group
     choice true h body next′ = tame-more (tame-then tame-mark (tame-then y (rest next′ none))) (omega arith) (omega arith)
     choice false h body next′ = tame-more (rest next′ (some body)) (omega arith) (omega arith)
 
-    inside : (body : ℕ) → Tame (act (mark next) then label at (λ next′. jumps SwitchLabel next′ body then lowerExpr m then cond (endsGroup k cs) (act (mark body) then lowerBlock k span then lowerCases cs at next′ none span) (lowerCases cs at next′ (some body) span))) (1 + a + c + e) (1 + b + d + f + (groupsOf (ccons m k cs) - 1))
+    inside : (body : ℕ) → Tame (act (mark next) then label at (λ next′. jumps at SwitchLabel next′ body then lowerExpr m then cond (endsGroup k cs) (act (mark body) then lowerBlock k span then lowerCases cs at next′ none span) (lowerCases cs at next′ (some body) span))) (1 + a + c + e) (1 + b + d + f + (groupsOf (ccons m k cs) - 1))
     inside body = tame-more (tame-then tame-mark (tame-label (λ next′. tame-then tame-emit (tame-then x (choice (endsGroup k cs) refl body next′))))) (omega arith) (omega arith)
 
     go : (group : Option ℕ) → Tame (lowerCases (ccons m k cs) at next group span) (1 + a + c + e) (1 + b + d + f + toOpen group (ccons m k cs))
@@ -119,10 +119,10 @@ unfolding DefaultTame lowerDefault
 with-default absent r n e f h span g = tame-done
 with-default (present b) r n e f h span g = h span g
 
-last-tame : (D : Default) (r n e f : ℕ) → DefaultTame D r n e f → (span : BlockSpan) → Allows span r n → Tame (lowerLast D span) (defaults D + e) f
+last-tame : (D : Default) (at r n e f : ℕ) → DefaultTame D r n e f → (span : BlockSpan) → Allows span r n → Tame (lowerLast D at span) (defaults D + e) f
 unfolding DefaultTame lowerLast defaults
-last-tame absent r n e f h span g = tame-done
-last-tame (present b) r n e f h span g = tame-more (tame-then tame-emit (h span g)) (omega arith) (omega arith)
+last-tame absent at r n e f h span g = tame-done
+last-tame (present b) at r n e f h span g = tame-more (tame-then tame-emit (h span g)) (omega arith) (omega arith)
 
 -- a mid default is one that is there
 mid-there : (D : Default) (i : ℕ) (cs : Cases) → midDefault D i cs ≡ true → defaults D ≡ 1
@@ -136,9 +136,9 @@ module _ (at type i : ℕ) (x : Expr) (cs : Cases) (D : Default) (span : BlockSp
   layout : (mid : Bool) → midDefault D i cs ≡ mid → (end first : ℕ)
       → Tame (cond mid
       (label at λ body. many at (lengthCases cs)
-      (lowerMatchers cs at first body then instr SwitchDefault 0 then jump Jump (body + lengthCases cs) then
+      (lowerMatchers cs at first body then instr at SwitchDefault 0 then jump at Jump (body + lengthCases cs) then
       lowerBodies cs i body (body + lengthCases cs) (lowerDefault D (inSwitch end span)) (inSwitch end span)))
-      (lowerCases cs at first none (inSwitch end span) then lowerLast D (inSwitch end span)))
+      (lowerCases cs at first none (inSwitch end span) then lowerLast D at (inSwitch end span)))
       (a + c + (lengthCases cs + cond mid 1 0) + (defaults D + e)) (b + d + (lengthCases cs + cond mid (lengthCases cs + 1) (groupsOf cs)) + f)
   unfolding toOpen
   layout true m end first =
@@ -148,7 +148,7 @@ module _ (at type i : ℕ) (x : Expr) (cs : Cases) (D : Default) (span : BlockSp
       (omega (arith, mid-there D i cs m)) (omega arith)
   layout false m end first =
       let S = in-switch end span r n g in
-      tame-more (tame-then (cases-tame cs r (within n) a b c d each at (inSwitch end span) S first none) (last-tame D r (within n) e f dflt (inSwitch end span) S)) (omega arith) (omega arith)
+      tame-more (tame-then (cases-tame cs r (within n) a b c d each at (inSwitch end span) S first none) (last-tame D at r (within n) e f dflt (inSwitch end span) S)) (omega arith) (omega arith)
 
   pub switch-tame : Tame (lowerStmt (switch at type x i cs D) span) (1 + a₀ + (a + c + (lengthCases cs + cond (midDefault D i cs) 1 0)) + (defaults D + e))
       (2 + b₀ + (b + d + (lengthCases cs + cond (midDefault D i cs) (lengthCases cs + 1) (groupsOf cs))) + f)
@@ -198,28 +198,28 @@ pub return-tame : (at : ℕ) (x : Expr) (span : BlockSpan) (r a b : ℕ) → Tam
 unfolding lowerStmt lowerReturn returned
 return-tame at x span r a b h q = rw q (go r)
   where
-    go : (r : ℕ) → Tame (lowerReturn r (lowerExpr x)) (returned r + a) b
+    go : (r : ℕ) → Tame (lowerReturn at r (lowerExpr x)) (returned r + a) b
     go zero = tame-more (tame-then h (tame-then tame-emit tame-emit)) (omega arith) (omega arith)
     go (suc r) = tame-more (tame-then tame-emit h) (omega arith) (omega arith)
 
--- an InitDefault has as many records whatever its local and its index
-default-length : (l b i : ℕ) → length (defaultInstrs l b i) ≡ defaultCount b
+-- an InitDefault has as many records whatever its place, its local and its index
+default-length : (at l b i : ℕ) → length (defaultInstrs at l b i) ≡ defaultCount b
 unfolding defaultInstrs primitiveDefault
-default-length l zero i = refl
-default-length l (suc zero) i = refl
-default-length l (suc (suc zero)) i = refl
-default-length l (suc (suc (suc zero))) i = refl
-default-length l (suc (suc (suc (suc zero)))) i = refl
-default-length l (suc (suc (suc (suc (suc b))))) i = go (ltb (suc (suc (suc (suc (suc b)))) - 5) 17)
+default-length at l zero i = refl
+default-length at l (suc zero) i = refl
+default-length at l (suc (suc zero)) i = refl
+default-length at l (suc (suc (suc zero))) i = refl
+default-length at l (suc (suc (suc (suc zero)))) i = refl
+default-length at l (suc (suc (suc (suc (suc b))))) i = go (ltb (suc (suc (suc (suc (suc b)))) - 5) 17)
   where
-    go : (t : Bool) → length (plain Assign 0 0 ∷ plain Local 0 l ∷ cond t (plain (getD defaultTags (suc (suc (suc (suc (suc b)))) - 5) Nop) 0 (cond (ltb (suc (suc (suc (suc (suc b)))) - 5) 4) i 0) ∷ []) [])
-        ≡ length (plain Assign 0 0 ∷ plain Local 0 0 ∷ cond t (plain (getD defaultTags (suc (suc (suc (suc (suc b)))) - 5) Nop) 0 (cond (ltb (suc (suc (suc (suc (suc b)))) - 5) 4) 0 0) ∷ []) [])
+    go : (t : Bool) → length (plain at Assign 0 0 ∷ plain at Local 0 l ∷ cond t (plain at (getD defaultTags (suc (suc (suc (suc (suc b)))) - 5) Nop) 0 (cond (ltb (suc (suc (suc (suc (suc b)))) - 5) 4) i 0) ∷ []) [])
+        ≡ length (plain 0 Assign 0 0 ∷ plain 0 Local 0 0 ∷ cond t (plain 0 (getD defaultTags (suc (suc (suc (suc (suc b)))) - 5) Nop) 0 (cond (ltb (suc (suc (suc (suc (suc b)))) - 5) 4) 0 0) ∷ []) [])
     go true = refl
     go false = refl
 
 pub default-tame : (at l b i : ℕ) (span : BlockSpan) → Tame (lowerStmt (initDefault at l b i) span) (defaultCount b) 0
 unfolding lowerStmt
-default-tame at l b i span = tame-more (tame-emits (defaultInstrs l b i)) (omega (arith, default-length l b i)) (omega arith)
+default-tame at l b i span = tame-more (tame-emits (defaultInstrs at l b i)) (omega (arith, default-length at l b i)) (omega arith)
 
 -- most bytes say three records
 unfoldable pub oddDefault : ℕ → Bool

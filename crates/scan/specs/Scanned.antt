@@ -154,7 +154,7 @@ pub record StmtAt (d : ℕ) (s : List ℕ) (stop at r returns inside k l k′ l�
 
 -- how many records an InitDefault emits, by its byte
 abbrev pub defaultCount : (byte : ℕ) → ℕ
-defaultCount b = length (defaultInstrs 0 b 0)
+defaultCount b = length (defaultInstrs 0 0 b 0)
 
 -- a switch with a mid default
 abbrev pub isMid : (index mark : ℕ) → List (Expr × Block) → Bool

@@ -18,7 +18,7 @@ use resolve::Resolved;
 pub const LONGEST: usize = 2048;
 
 // A unit has no more records than bytes, and never more than 65,536 labels: so its listing and its label table fit.
-type Listing = [u8; 36869];
+type Listing = [u8; 45061];
 
 type Marks = [u32; 65536];
 
@@ -65,8 +65,8 @@ pub fn show(input: &[u8], out: &mut [u8]) -> Text
     if LONGEST < input.len() {
         return print::print_refusal(1, 0, 0, out);
     }
-    let mut listing: Listing = [0; 36869];
+    let mut listing: Listing = [0; 45061];
     let mut marks: Marks = [0; 65536];
-    let mut code: Listing = [0; 36869];
+    let mut code: Listing = [0; 45061];
     show_unit(input, &mut listing, &mut marks, &mut code, out)
 }

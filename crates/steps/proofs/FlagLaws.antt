@@ -133,22 +133,22 @@ bits-end {d} {s} {end} {all} {i} {bit} r h =
 
 -- 3. The invoke, whose flags are sixteen bits
 
-invoke-cut : (t l n f v : ℕ) {g : ℕ} {w r : Walk} {o o′ : List ℕ} → g ≡ f % 2 ^ 16 → Emitted (invoke t l n g v) w o r o′ → Emitted (invoke t l n f v) w o r o′
+invoke-cut : (at t l n f v : ℕ) {g : ℕ} {w r : Walk} {o o′ : List ℕ} → g ≡ f % 2 ^ 16 → Emitted (invoke at t l n g v) w o r o′ → Emitted (invoke at t l n f v) w o r o′
 unfolding recordBytes
-invoke-cut t l n f v e d = emit-alike (rw (e, bytes-cut f)) refl d
+invoke-cut at t l n f v e d = emit-alike (rw (e, bytes-cut f)) refl d
 
-static-code : (b exit line flags function name : ℕ) {w r : Walk} {o o′ : List ℕ} → (b ≡ 0 → ⊥) → Emitted (invoke InvokeStatic exit line flags function) w o r o′ → Emitted (emitInvoke b exit line flags function name) w o r o′
+static-code : (site b exit line flags function name : ℕ) {w r : Walk} {o o′ : List ℕ} → (b ≡ 0 → ⊥) → Emitted (invoke site InvokeStatic exit line flags function) w o r o′ → Emitted (emitInvoke site b exit line flags function name) w o r o′
 unfolding emitInvoke
-static-code zero exit line flags function name h d = absurd (h refl)
-static-code (suc b) exit line flags function name h d = d
+static-code site zero exit line flags function name h d = absurd (h refl)
+static-code site (suc b) exit line flags function name h d = d
 
-module _ (s : List ℕ) (at exit line flags : ℕ) {g : ℕ} {w r : Walk} {o o′ : List ℕ} (e : g ≡ flags % 2 ^ 16) (n : line ≡ number 2 s (at + 8)) where
-  pub invoke-virtual : (name : ℕ) → getD s (at + 10) 0 ≡ 0 → name ≡ number 4 s (at + 4) → Emitted (invoke InvokeVirtual exit line g name) w o r o′ →
-      Emitted (emitInvoke (calleeAt s at .flags) exit (calleeAt s at .line) flags (calleeAt s at .function) (calleeAt s at .name)) w o r o′
+module _ (s : List ℕ) (at site exit line flags : ℕ) {g : ℕ} {w r : Walk} {o o′ : List ℕ} (e : g ≡ flags % 2 ^ 16) (n : line ≡ number 2 s (at + 8)) where
+  pub invoke-virtual : (name : ℕ) → getD s (at + 10) 0 ≡ 0 → name ≡ number 4 s (at + 4) → Emitted (invoke site InvokeVirtual exit line g name) w o r o′ →
+      Emitted (emitInvoke site (calleeAt s at .flags) exit (calleeAt s at .line) flags (calleeAt s at .function) (calleeAt s at .name)) w o r o′
   unfolding emitInvoke calleeAt
-  invoke-virtual name z h d = rw (z, ← h, ← n) (invoke-cut InvokeVirtual exit line flags name e d)
+  invoke-virtual name z h d = rw (z, ← h, ← n) (invoke-cut site InvokeVirtual exit line flags name e d)
 
-  pub invoke-static : (function : ℕ) → (getD s (at + 10) 0 ≡ 0 → ⊥) → function ≡ number 4 s at → Emitted (invoke InvokeStatic exit line g function) w o r o′ →
-      Emitted (emitInvoke (calleeAt s at .flags) exit (calleeAt s at .line) flags (calleeAt s at .function) (calleeAt s at .name)) w o r o′
+  pub invoke-static : (function : ℕ) → (getD s (at + 10) 0 ≡ 0 → ⊥) → function ≡ number 4 s at → Emitted (invoke site InvokeStatic exit line g function) w o r o′ →
+      Emitted (emitInvoke site (calleeAt s at .flags) exit (calleeAt s at .line) flags (calleeAt s at .function) (calleeAt s at .name)) w o r o′
   unfolding calleeAt
-  invoke-static function z h d = rw (← h, ← n) (static-code _ exit line flags function _ z (invoke-cut InvokeStatic exit line flags function e d))
+  invoke-static function z h d = rw (← h, ← n) (static-code site _ exit line flags function _ z (invoke-cut site InvokeStatic exit line flags function e d))

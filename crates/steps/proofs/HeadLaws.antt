@@ -30,7 +30,7 @@ use Rattle.steps.proofs.RunLaws.{listed}
 -- 1. The record
 
 -- its fields by other names
-as-plain : {t t′ n n′ v v′ : ℕ} {w r : Walk} {o o′ : List ℕ} → t ≡ t′ → n ≡ n′ → v ≡ v′ → Emitted (act (emit (plain t n v))) w o r o′ → Emitted (act (emit (plain t′ n′ v′))) w o r o′
+as-plain : {at t t′ n n′ v v′ : ℕ} {w r : Walk} {o o′ : List ℕ} → t ≡ t′ → n ≡ n′ → v ≡ v′ → Emitted (act (emit (plain at t n v))) w o r o′ → Emitted (act (emit (plain at t′ n′ v′))) w o r o′
 as-plain e f g d = rw (← e, ← f, ← g) d
 
 -- an arm of a kind
@@ -38,7 +38,7 @@ module _ (d : ℕ) (s : List ℕ) (stop at : ℕ) {w r : Walk} {o o′ : List �
   of-kind : (k : ℕ) → getD s (at + 4) 0 ≡ k → Emitted (headOf d s stop at k) w o r o′ → Emitted (headCode d s stop at) w o r o′
   of-kind k e x = rw e x
 
-  pub nop-head : getD s (at + 4) 0 ≡ 1 → Emitted (instr Nop 0) w o r o′ → Emitted (headCode d s stop at) w o r o′
+  pub nop-head : getD s (at + 4) 0 ≡ 1 → Emitted (instr at Nop 0) w o r o′ → Emitted (headCode d s stop at) w o r o′
   unfolding heads headOf
   nop-head e x = of-kind 1 e x
 
@@ -46,11 +46,11 @@ module _ (d : ℕ) (s : List ℕ) (stop at : ℕ) {w r : Walk} {o o′ : List �
   unfolding heads headOf
   const-head e x = of-kind 2 e x
 
-  pub null-head : (t b : ℕ) → getD s (at + 4) 0 ≡ 3 → t ≡ nullTag b → b ≡ getD s (at + 5) 0 → Emitted (instr t 0) w o r o′ → Emitted (headCode d s stop at) w o r o′
+  pub null-head : (t b : ℕ) → getD s (at + 4) 0 ≡ 3 → t ≡ nullTag b → b ≡ getD s (at + 5) 0 → Emitted (instr at t 0) w o r o′ → Emitted (headCode d s stop at) w o r o′
   unfolding heads headOf
   null-head t b e f g x = of-kind 3 e (as-plain (f ∙ ap nullTag g) refl refl x)
 
-  pub new-head : (class : ℕ) → getD s (at + 4) 0 ≡ 4 → class ≡ number 4 s (at + 5) → Emitted (instr New class) w o r o′ → Emitted (headCode d s stop at) w o r o′
+  pub new-head : (class : ℕ) → getD s (at + 4) 0 ≡ 4 → class ≡ number 4 s (at + 5) → Emitted (instr at New class) w o r o′ → Emitted (headCode d s stop at) w o r o′
   unfolding heads headOf
   new-head class e f x = of-kind 4 e (as-plain refl refl f x)
 
@@ -58,19 +58,19 @@ module _ (d : ℕ) (s : List ℕ) (stop at : ℕ) {w r : Walk} {o o′ : List �
   unfolding heads headOf
   construct-head end e f x = of-kind 5 e (rw (← f) x)
 
-  pub assign-head : getD s (at + 4) 0 ≡ 6 → Emitted (instr Assign 0) w o r o′ → Emitted (headCode d s stop at) w o r o′
+  pub assign-head : getD s (at + 4) 0 ≡ 6 → Emitted (instr at Assign 0) w o r o′ → Emitted (headCode d s stop at) w o r o′
   unfolding heads headOf
   assign-head e x = of-kind 6 e x
 
-  pub index-head : (t b type : ℕ) → getD s (at + 4) 0 ≡ 8 → t ≡ elementTag b → b ≡ getD s (at + 5) 0 → type ≡ number 4 s (at + 6) → Emitted (instr t type) w o r o′ → Emitted (headCode d s stop at) w o r o′
+  pub index-head : (t b type : ℕ) → getD s (at + 4) 0 ≡ 8 → t ≡ elementTag b → b ≡ getD s (at + 5) 0 → type ≡ number 4 s (at + 6) → Emitted (instr at t type) w o r o′ → Emitted (headCode d s stop at) w o r o′
   unfolding heads headOf
   index-head t b type e f g h x = of-kind 8 e (as-plain (f ∙ ap elementTag g) refl h x)
 
-  pub cast-head : (weak b class : ℕ) → getD s (at + 4) 0 ≡ 10 → weak ≡ b → b ≡ getD s (at + 9) 0 → class ≡ number 4 s (at + 5) → Emitted (act (emit (plain DynamicCast weak class))) w o r o′ → Emitted (headCode d s stop at) w o r o′
+  pub cast-head : (weak b class : ℕ) → getD s (at + 4) 0 ≡ 10 → weak ≡ b → b ≡ getD s (at + 9) 0 → class ≡ number 4 s (at + 5) → Emitted (act (emit (plain at DynamicCast weak class))) w o r o′ → Emitted (headCode d s stop at) w o r o′
   unfolding heads headOf
   cast-head weak b class e f g h x = of-kind 10 e (as-plain refl (f ∙ g) h x)
 
-  pub local-head : (t b i : ℕ) → getD s (at + 4) 0 ≡ 11 → t ≡ localTag b → b ≡ getD s (at + 5) 0 → i ≡ number 4 s (at + 6) → Emitted (instr t i) w o r o′ → Emitted (headCode d s stop at) w o r o′
+  pub local-head : (t b i : ℕ) → getD s (at + 4) 0 ≡ 11 → t ≡ localTag b → b ≡ getD s (at + 5) 0 → i ≡ number 4 s (at + 6) → Emitted (instr at t i) w o r o′ → Emitted (headCode d s stop at) w o r o′
   unfolding heads headOf
   local-head t b i e f g h x = of-kind 11 e (as-plain (f ∙ ap localTag g) refl h x)
 
@@ -123,14 +123,14 @@ no-head d s stop at (suc k) h = one-of 0 12 (suc k) (
 
 -- of a Construct and of an intrinsic call: the check, then the record
 pub constructed : (d : ℕ) (s : List ℕ) (stop at n class : ℕ) {w v r : Walk} {o o′ : List ℕ} → n ≡ length (listOf (exprsFrom d s stop (at + 13))) → class ≡ number 4 s (at + 5) →
-    Left (require (ltb n 256) 12 at n) w v → Emitted (act (emit (plain Construct n class))) v o r o′ → Emitted (constructCode d s stop at) w o r o′
+    Left (require (ltb n 256) 12 at n) w v → Emitted (act (emit (plain at Construct n class))) v o r o′ → Emitted (constructCode d s stop at) w o r o′
 unfolding constructCode
 constructed d s stop at n class {o = o} e f a b = rw (← e, ← f) (record { did = λ m. both (a .did o m) (b .did m) })
 
 pub intrinsic-did : (s : List ℕ) (at code short types : ℕ) (fits : Bool) (tag small i : ℕ) {w v r : Walk} {o o′ : List ℕ} →
     code ≡ getD s (at + 5) 0 → short ≡ getD s (at + 6) 0 → types ≡ getD s (at + 7) 0 → fits ≡ (eqb short 0 && eqb types (intrinsicOf code .types)) →
     tag ≡ intrinsicOf code .tag → small ≡ intrinsicOf code .small → i ≡ number 4 s (at + 8) →
-    Left (require fits 14 at 0) w v → Emitted (act (emit (plain tag small i))) v o r o′ → Emitted (intrinsicCode s at) w o r o′
+    Left (require fits 14 at 0) w v → Emitted (act (emit (plain at tag small i))) v o r o′ → Emitted (intrinsicCode s at) w o r o′
 unfolding intrinsicCode
 intrinsic-did s at code short types fits tag small i {o = o} e f g h p q j a b =
     rw (← e, ← f, ← g, ← j, ← p, ← q, ← h) (record { did = λ m. both (a .did o m) (b .did m) })
@@ -295,7 +295,7 @@ module _ (depth : ℕ) (s : List ℕ) (end at : ℕ) (acc : Accepted (parseExpr 
       let r = run-at (at + 9) (at + 13) (omega arith) (c .run) in
       let n : length (listOf (exprsFrom below s stop (at + 13))) ≡ lengthExprs (exprsOf (c .args)) = ap length (listed _ _ _ (r .1)) ∙ sym (length-exprs (c .args)) in
       parted 5 13 (c .args) k refl (λ z. omega (arith, z)) (r .1) (r .0)
-      (same-on (same-code (ap (λ m. (require (ltb m 256) 12 at m then act (emit (plain Construct m (number 4 s (at + 5))))) then all (c .args)) n)) (same-on (same-back (same-assoc _ _ _)) (same-code (ap lowerExpr (sym (c .tree))))))
+      (same-on (same-code (ap (λ m. (require (ltb m 256) 12 at m then act (emit (plain at Construct m (number 4 s (at + 5))))) then all (c .args)) n)) (same-on (same-back (same-assoc _ _ _)) (same-code (ap lowerExpr (sym (c .tree))))))
 
   intrinsic-parts : kind ≡ 12 → Parts
   unfolding heads headOf partsFrom lowerExpr intrinsicCode

@@ -109,7 +109,7 @@ typed-is short types k n e f = rw (e, f)
 
 -- 2. Records
 
-pub const-did : {w r : Walk} {o o′ : List ℕ} (s : List ℕ) (at b v t : ℕ) → b ≡ getD s (at + 5) 0 → v ≡ number (getD constWidths b 0) s (at + 6) → t ≡ constTag b v → Emitted (instr t v) w o r o′ → Emitted (constCode s at) w o r o′
+pub const-did : {w r : Walk} {o o′ : List ℕ} (s : List ℕ) (at b v t : ℕ) → b ≡ getD s (at + 5) 0 → v ≡ number (getD constWidths b 0) s (at + 6) → t ≡ constTag b v → Emitted (instr at t v) w o r o′ → Emitted (constCode s at) w o r o′
 unfolding constCode
 const-did s at b v t e f g d = rw (constCode, ← e, ← f, ← g) d
 
@@ -126,44 +126,44 @@ kth-none ts k e = elim (decLt k (length ts)) [
   | no h ↦ omega arith
 ]
 
-pub primitive-is : {w r : Walk} {o o′ : List ℕ} (k i t v : ℕ) (z : DefaultTag) → z ≡ Is t → z ≡ defaultTagIs k → v ≡ cond (ltb k 4) i 0 → Emitted (instr t v) w o r o′ → Emitted (emits (primitiveDefault k i)) w o r o′
+pub primitive-is : {w r : Walk} {o o′ : List ℕ} (at k i t v : ℕ) (z : DefaultTag) → z ≡ Is t → z ≡ defaultTagIs k → v ≡ cond (ltb k 4) i 0 → Emitted (instr at t v) w o r o′ → Emitted (emits (primitiveDefault at k i)) w o r o′
 unfolding primitiveDefault emits defaultTags
-primitive-is k i t v z d e f g = let q = kth-is defaultTags k t (sym d ∙ e) in rw (primitiveDefault, lt-ltb k 17 (q .0), ← q .1, ← f) (emitted-both g none-emitted)
+primitive-is at k i t v z d e f g = let q = kth-is defaultTags k t (sym d ∙ e) in rw (primitiveDefault, lt-ltb k 17 (q .0), ← q .1, ← f) (emitted-both g none-emitted)
 
-pub primitive-none : {w : Walk} {o : List ℕ} (k i : ℕ) (z : DefaultTag) → tagOf default-type z ≡ 1 → z ≡ defaultTagIs k → Emitted (emits (primitiveDefault k i)) w o w o
+pub primitive-none : {w : Walk} {o : List ℕ} (at k i : ℕ) (z : DefaultTag) → tagOf default-type z ≡ 1 → z ≡ defaultTagIs k → Emitted (emits (primitiveDefault at k i)) w o w o
 unfolding primitiveDefault emits defaultTags
-primitive-none k i (Is t) d e = impossible d
-primitive-none k i NoValue d e = rw (primitiveDefault, le-ltb k 17 (kth-none defaultTags k e)) none-emitted
+primitive-none at k i (Is t) d e = impossible d
+primitive-none at k i NoValue d e = rw (primitiveDefault, le-ltb k 17 (kth-none defaultTags k e)) none-emitted
 
-pub default-read : {w r : Walk} {o o′ : List ℕ} (l b i : ℕ) {l′ b′ i′ : ℕ} → l ≡ l′ → b ≡ b′ → i ≡ i′ → Emitted (emits (defaultInstrs l b i)) w o r o′ → Emitted (emits (defaultInstrs l′ b′ i′)) w o r o′
-default-read l b i e f g d = rw (← e, ← f, ← g) d
+pub default-read : {w r : Walk} {o o′ : List ℕ} (at l b i : ℕ) {l′ b′ i′ : ℕ} → l ≡ l′ → b ≡ b′ → i ≡ i′ → Emitted (emits (defaultInstrs at l b i)) w o r o′ → Emitted (emits (defaultInstrs at l′ b′ i′)) w o r o′
+default-read at l b i e f g d = rw (← e, ← f, ← g) d
 
-pub default-variant : {w : Walk} {o : List ℕ} (l b i : ℕ) → b ≡ 0 → Emitted (emits (defaultInstrs l b i)) w o w o
+pub default-variant : {w : Walk} {o : List ℕ} (at l b i : ℕ) → b ≡ 0 → Emitted (emits (defaultInstrs at l b i)) w o w o
 unfolding defaultInstrs emits
-default-variant l b i e = rw e none-emitted
+default-variant at l b i e = rw e none-emitted
 
-pub default-array : {w v r : Walk} {o o₁ o′ : List ℕ} (l b i : ℕ) → b ≡ 1 → Emitted (instr ArrayClear i) w o v o₁ → Emitted (instr Local l) v o₁ r o′ → Emitted (emits (defaultInstrs l b i)) w o r o′
+pub default-array : {w v r : Walk} {o o₁ o′ : List ℕ} (at l b i : ℕ) → b ≡ 1 → Emitted (instr at ArrayClear i) w o v o₁ → Emitted (instr at Local l) v o₁ r o′ → Emitted (emits (defaultInstrs at l b i)) w o r o′
 unfolding defaultInstrs emits
-default-array l b i e x y = rw e (emitted-both x (emitted-both y none-emitted))
+default-array at l b i e x y = rw e (emitted-both x (emitted-both y none-emitted))
 
-module _ {w v u : Walk} {o o₁ o₂ : List ℕ} (l b i : ℕ) (x : Emitted (instr Assign 0) w o v o₁) (y : Emitted (instr Local l) v o₁ u o₂) where
-  pub default-struct : {r : Walk} {o′ : List ℕ} → b ≡ 2 → Emitted (instr Construct i) u o₂ r o′ → Emitted (emits (defaultInstrs l b i)) w o r o′
+module _ {w v u : Walk} {o o₁ o₂ : List ℕ} (at l b i : ℕ) (x : Emitted (instr at Assign 0) w o v o₁) (y : Emitted (instr at Local l) v o₁ u o₂) where
+  pub default-struct : {r : Walk} {o′ : List ℕ} → b ≡ 2 → Emitted (instr at Construct i) u o₂ r o′ → Emitted (emits (defaultInstrs at l b i)) w o r o′
   unfolding defaultInstrs emits
   default-struct e z = rw e (emitted-both x (emitted-both y (emitted-both z none-emitted)))
 
-  pub default-other : {r : Walk} {o′ : List ℕ} → b ≡ 3 → Emitted (instr Null 0) u o₂ r o′ → Emitted (emits (defaultInstrs l b i)) w o r o′
+  pub default-other : {r : Walk} {o′ : List ℕ} → b ≡ 3 → Emitted (instr at Null 0) u o₂ r o′ → Emitted (emits (defaultInstrs at l b i)) w o r o′
   unfolding defaultInstrs emits
   default-other e z = rw e (emitted-both x (emitted-both y (emitted-both z none-emitted)))
 
-  pub default-enum : {t r : Walk} {o₃ o′ : List ℕ} → b ≡ 4 → Emitted (act (emit (plain I32ToEnum 1 i))) u o₂ t o₃ → Emitted (instr I8Const 0) t o₃ r o′ → Emitted (emits (defaultInstrs l b i)) w o r o′
+  pub default-enum : {t r : Walk} {o₃ o′ : List ℕ} → b ≡ 4 → Emitted (act (emit (plain at I32ToEnum 1 i))) u o₂ t o₃ → Emitted (instr at I8Const 0) t o₃ r o′ → Emitted (emits (defaultInstrs at l b i)) w o r o′
   unfolding defaultInstrs emits
   default-enum e z a = rw e (emitted-both x (emitted-both y (emitted-both z (emitted-both a none-emitted))))
 
-  pub default-primitive : {r : Walk} {o′ : List ℕ} → 5 ≤ b → Emitted (emits (primitiveDefault (b - 5) i)) u o₂ r o′ → Emitted (emits (defaultInstrs l b i)) w o r o′
+  pub default-primitive : {r : Walk} {o′ : List ℕ} → 5 ≤ b → Emitted (emits (primitiveDefault at (b - 5) i)) u o₂ r o′ → Emitted (emits (defaultInstrs at l b i)) w o r o′
   unfolding defaultInstrs emits
   default-primitive h z = go b h z
     where
-      go : (b : ℕ) → 5 ≤ b → {r : Walk} {o′ : List ℕ} → Emitted (emits (primitiveDefault (b - 5) i)) u o₂ r o′ → Emitted (emits (defaultInstrs l b i)) w o r o′
+      go : (b : ℕ) → 5 ≤ b → {r : Walk} {o′ : List ℕ} → Emitted (emits (primitiveDefault at (b - 5) i)) u o₂ r o′ → Emitted (emits (defaultInstrs at l b i)) w o r o′
       go (suc (suc (suc (suc (suc n))))) h z = emitted-both x (emitted-both y z)
       go zero h z = absurd (omega arith)
       go (suc zero) h z = absurd (omega arith)

@@ -243,7 +243,7 @@ module _ {d : ℕ} {s : List ℕ} {end site : ℕ} {code : Code} {w : Walk} {o m
       }
 
 pub args-end : {d : ℕ} {s : List ℕ} {end site : ℕ} {code : Code} {w : Walk} {o m : List ℕ} {p left i : ℕ} {v : Walk} {o₁ m₁ : List ℕ} {z : Walk} {o₂ : List ℕ} → ArgsRest d s end site code w o m p left i v o₁ m₁ → end ≤ i →
-    Nops left v o₁ z o₂ → Did code w o m z o₂ m₁
+    Nops site left v o₁ z o₂ → Did code w o m z o₂ m₁
 unfolding lowerExpr exprsOf
 args-end {d} {s} {end} {p = p} {left = left} {m₁ = m₁} a h n = goes-last (rest-end _ _ _ _ _ _ _ _ _ _ _ (expr-moves d s end) h (a .rest)) (n (marksFrom s p left) (marks-long s p left) .did m₁)
 

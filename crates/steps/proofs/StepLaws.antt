@@ -12,7 +12,7 @@ use native.Mathlib.Omega.{arith}
 use Rattle.definitions.specs.Bytes.{bytes}
 use Rattle.definitions.specs.Tag.{tagSize, rowOf, WeakRefToRef, Nop}
 use Rattle.definitions.specs.Tag as definitions
-use Rattle.definitions.specs.Instr.{Instr, recordBytes, size, plain}
+use Rattle.definitions.specs.Instr.{Instr, recordLength, recordBytes, size, plain}
 use Rattle.definitions.specs.Listing.{listingLength}
 use Rattle.definitions.specs.Code.{Code, done, _then_, label, Action, mark, new, emit, refuse, labelLimit, act}
 use Rattle.definitions.specs.Lower.{require, jumpTo, jump, instr, weakToRef, nullTag, elementTag, nops, BlockSpan}
@@ -77,7 +77,7 @@ pub refuse-did : (w : Walk) (k : Counters) (n p x : ℕ) → w ≡ Going k → L
 unfolding ran move
 refuse-did w k n p x e = record { did = λ o m. acts _ w k o m _ o m e refl refl refl }
 
--- a record whose label fields are cut to sixteen bits has the same bytes
+-- a record whose fields are cut to their widths has the same bytes
 pub bytes-cut : (v : ℕ) → bytes 2 (v % 2 ^ 16) ≡ bytes 2 v
 unfolding bytes
 bytes-cut v =
@@ -91,12 +91,21 @@ byte-cut v =
     let b : (v % 2 ^ 8) / 1 % 256 ≡ v / 1 % 256 = omega arith in
     rw b
 
+word-cut : (v : ℕ) → bytes 4 (v % 2 ^ 32) ≡ bytes 4 v
+unfolding bytes
+word-cut v =
+    let a : (v % 2 ^ 32) / 16777216 % 256 ≡ v / 16777216 % 256 = omega arith in
+    let b : (v % 2 ^ 32) / 65536 % 256 ≡ v / 65536 % 256 = omega arith in
+    let c : (v % 2 ^ 32) / 256 % 256 ≡ v / 256 % 256 = omega arith in
+    let d : (v % 2 ^ 32) / 1 % 256 ≡ v / 1 % 256 = omega arith in
+    rw (a, b, c, d)
+
 abbrev cut : Instr → Instr
-cut i = record { tag = i .tag; small = i .small % 2 ^ 8; first = i .first % 2 ^ 16; second = i .second % 2 ^ 16; line = i .line; flags = i .flags; value = i .value }
+cut i = record { tag = i .tag; small = i .small % 2 ^ 8; first = i .first % 2 ^ 16; second = i .second % 2 ^ 16; line = i .line; flags = i .flags; value = i .value; node = i .node % 2 ^ 32 }
 
 put-cut : (o : List ℕ) (k : ℕ) (i : Instr) → put o k (cut i) ≡ put o k i
 unfolding put recordBytes
-put-cut o k i = simp (byte-cut (i .small), bytes-cut (i .first), bytes-cut (i .second))
+put-cut o k i = simp (byte-cut (i .small), bytes-cut (i .first), bytes-cut (i .second), word-cut (i .node))
 
 -- the counters and the listing after a record
 pub emitted-is : (k : Counters) (i : Instr) (size offset count : ℕ) → size ≡ tagSize (i .tag) → offset ≡ (k .offset + size) % 2 ^ 32 → count ≡ (k .count + 1) % 2 ^ 32 →
@@ -117,29 +126,29 @@ take-drop-all (suc n) [] = refl
 take-drop-all (suc n) (x ∷ l) = ap (λ r. x ∷ r) (take-drop-all n l)
 
 -- a record, where it fits and where it does not
-pub put-out : (o : List ℕ) (k : ℕ) (i : Instr) → length o < 5 + 18 * k → o ≡ put o k i
+pub put-out : (o : List ℕ) (k : ℕ) (i : Instr) → length o < listingLength k → o ≡ put o k i
 unfolding put
 put-out o k i h = rw (put, lt-leb (listingLength (k + 1)) (length o) (omega arith))
 
-pub put-in : (o : List ℕ) (k : ℕ) (i : Instr) (p : List ℕ) → 5 + 18 * k ≤ length o → p ≡ written i (take (length o - (5 + 18 * k)) (drop (5 + 18 * k) o)) →
-    putMid (5 + 18 * k) (length o - (5 + 18 * k)) o p ≡ put o k i
+pub put-in : (o : List ℕ) (k : ℕ) (i : Instr) (p : List ℕ) → listingLength k ≤ length o → p ≡ written i (take (length o - listingLength k) (drop (listingLength k) o)) →
+    putMid (listingLength k) (length o - listingLength k) o p ≡ put o k i
 unfolding put written
 put-in o k i p h e =
-    let all : take (length o - (5 + 18 * k)) (drop (5 + 18 * k) o) ≡ drop (5 + 18 * k) o = take-all (length o - (5 + 18 * k)) (drop (5 + 18 * k) o) (simp length-drop (omega arith)) in
-    let none : drop (length o - (5 + 18 * k)) (drop (5 + 18 * k) o) ≡ [] = drop-of-length-le (drop (5 + 18 * k) o) {i = length o - (5 + 18 * k)} (simp length-drop (omega arith)) in
-    let long : length (drop (5 + 18 * k) o) ≡ length o - (5 + 18 * k) = simp length-drop in
-    go (leb (5 + 18 * (k + 1)) (length o)) refl (rw all at e) none long
+    let all : take (length o - listingLength k) (drop (listingLength k) o) ≡ drop (listingLength k) o = take-all (length o - listingLength k) (drop (listingLength k) o) (simp length-drop (omega arith)) in
+    let none : drop (length o - listingLength k) (drop (listingLength k) o) ≡ [] = drop-of-length-le (drop (listingLength k) o) {i = length o - listingLength k} (simp length-drop (omega arith)) in
+    let long : length (drop (listingLength k) o) ≡ length o - listingLength k = simp length-drop in
+    go (leb (listingLength (k + 1)) (length o)) refl (rw all at e) none long
   where
-    go : (b : Bool) → leb (5 + 18 * (k + 1)) (length o) ≡ b → p ≡ written i (drop (5 + 18 * k) o) → drop (length o - (5 + 18 * k)) (drop (5 + 18 * k) o) ≡ [] → length (drop (5 + 18 * k) o) ≡ length o - (5 + 18 * k)
-        → take (5 + 18 * k) o ++ (p ++ drop (length o - (5 + 18 * k)) (drop (5 + 18 * k) o)) ≡ put o k i
+    go : (b : Bool) → leb (listingLength (k + 1)) (length o) ≡ b → p ≡ written i (drop (listingLength k) o) → drop (length o - listingLength k) (drop (listingLength k) o) ≡ [] → length (drop (listingLength k) o) ≡ length o - listingLength k
+        → take (listingLength k) o ++ (p ++ drop (length o - listingLength k) (drop (listingLength k) o)) ≡ put o k i
     go true f q none long =
-        let z : 18 ≤ length (drop (5 + 18 * k) o) = omega (arith, long, leb-true (5 + 18 * (k + 1)) (length o) f) in
-        let w : 5 + 18 * k + 18 ≡ 5 + 18 * (k + 1) = omega arith in
-        let v : drop 18 (drop (5 + 18 * k) o) ≡ drop (5 + 18 * (k + 1)) o = drop-drop 18 (5 + 18 * k) o ∙ ap (λ x. drop x o) w in
-        rw (none, append-nil p, put, f, q, written, le-leb 18 (length (drop (5 + 18 * k) o)) z, v)
+        let z : recordLength ≤ length (drop (listingLength k) o) = omega (arith, long, leb-true (listingLength (k + 1)) (length o) f) in
+        let w : listingLength k + recordLength ≡ listingLength (k + 1) = omega arith in
+        let v : drop recordLength (drop (listingLength k) o) ≡ drop (listingLength (k + 1)) o = drop-drop recordLength (listingLength k) o ∙ ap (λ x. drop x o) w in
+        rw (none, append-nil p, put, f, q, written, le-leb recordLength (length (drop (listingLength k) o)) z, v)
     go false f q none long =
-        let z : length (drop (5 + 18 * k) o) < 18 = omega (arith, long, leb-false (5 + 18 * (k + 1)) (length o) f) in
-        rw (none, append-nil p, put, f, q, written, lt-leb 18 (length (drop (5 + 18 * k) o)) z) (take-drop-all (5 + 18 * k) o)
+        let z : length (drop (listingLength k) o) < recordLength = omega (arith, long, leb-false (listingLength (k + 1)) (length o) f) in
+        rw (none, append-nil p, put, f, q, written, lt-leb recordLength (length (drop (listingLength k) o)) z) (take-drop-all (listingLength k) o)
 
 -- 2. Steps in a row
 
@@ -196,7 +205,7 @@ unfolding require
 require-failed w r b n p x e d = rw e d
 
 -- a jump to a label, and the refusal where there is none
-pub jump-did : {w : Walk} {o : List ℕ} {r : Walk} {o′ : List ℕ} (number at : ℕ) (t : Target) (l : ℕ) → t ≡ Label l → Emitted (jump 0x1F l) w o r o′ → Emitted (jumpTo number at (targetOf t)) w o r o′
+pub jump-did : {w : Walk} {o : List ℕ} {r : Walk} {o′ : List ℕ} (number at : ℕ) (t : Target) (l : ℕ) → t ≡ Label l → Emitted (jump at 0x1F l) w o r o′ → Emitted (jumpTo number at (targetOf t)) w o r o′
 unfolding jumpTo targetOf
 jump-did number at t l e d = rw e d
 
@@ -211,18 +220,18 @@ set-out (x ∷ m) (suc l) v h = ap (λ r. x ∷ r) (set-out m l v (omega arith))
 
 -- leaves
 
-pub weak-none : (n : ℕ) (w : Walk) (o : List ℕ) → n ≡ 0 → Emitted (weakToRef n) w o w o
+pub weak-none : (at n : ℕ) (w : Walk) (o : List ℕ) → n ≡ 0 → Emitted (weakToRef at n) w o w o
 unfolding weakToRef
-weak-none n w o e = rw e (record { did = λ m. nothing })
+weak-none at n w o e = rw e (record { did = λ m. nothing })
 
-pub weak-some : {w r : Walk} {o o′ : List ℕ} (n : ℕ) → (n ≡ 0 → ⊥) → Emitted (instr WeakRefToRef 0) w o r o′ → Emitted (weakToRef n) w o r o′
+pub weak-some : {w r : Walk} {o o′ : List ℕ} (at n : ℕ) → (n ≡ 0 → ⊥) → Emitted (instr at WeakRefToRef 0) w o r o′ → Emitted (weakToRef at n) w o r o′
 unfolding weakToRef
-weak-some zero h d = absurd (h refl)
-weak-some (suc n) h d = d
+weak-some at zero h d = absurd (h refl)
+weak-some at (suc n) h d = d
 
-pub plain-did : {w r : Walk} {o o′ : List ℕ} (t n v m x : ℕ) (row : Row) → rowIs row ≡ rowOf t → m ≡ cond (row .small) n 0 → x ≡ cond (row .value) v 0 →
-    Emitted (act (emit (record { tag = t; small = m; first = 0; second = 0; line = 0; flags = 0; value = x }))) w o r o′ → Emitted (act (emit (plain t n v))) w o r o′
-plain-did t n v m x row e f g d =
+pub plain-did : {w r : Walk} {o o′ : List ℕ} (at t n v m x : ℕ) (row : Row) → rowIs row ≡ rowOf t → m ≡ cond (row .small) n 0 → x ≡ cond (row .value) v 0 →
+    Emitted (act (emit (record { tag = t; small = m; first = 0; second = 0; line = 0; flags = 0; value = x; node = at }))) w o r o′ → Emitted (act (emit (plain at t n v))) w o r o′
+plain-did at t n v m x row e f g d =
     let a : row .small ≡ rowOf t .small = ap (λ (y : definitions.Row). y .small) e in
     let b : row .value ≡ rowOf t .value = ap (λ (y : definitions.Row). y .value) e in
     rw (← a, ← b, ← f, ← g) d
@@ -264,37 +273,37 @@ open-new t at e d = rw e d
 -- Nops
 
 -- `left` of n are left
-pub record NopsRest (n : ℕ) (w : Walk) (o : List ℕ) (left : ℕ) (v : Walk) (o′ : List ℕ) : Type 0 where
-  pub goes : (ps : List ℕ) → length ps ≡ n → (qs : List ℕ) × (length qs ≡ left) × ((m : List ℕ) → onward (ran v o′ m) (run (nops qs)) ≡ onward (ran w o m) (run (nops ps)))
+pub record NopsRest (at n : ℕ) (w : Walk) (o : List ℕ) (left : ℕ) (v : Walk) (o′ : List ℕ) : Type 0 where
+  pub goes : (ps : List ℕ) → length ps ≡ n → (qs : List ℕ) × (length qs ≡ left) × ((m : List ℕ) → onward (ran v o′ m) (run (nops at qs)) ≡ onward (ran w o m) (run (nops at ps)))
   pub outs : length o′ ≡ length o
 
-pub nops-start : (n : ℕ) (w : Walk) (o : List ℕ) → NopsRest n w o n w o
-nops-start n w o = record { goes = λ ps e. (ps, e, λ m. refl); outs = refl }
+pub nops-start : (at n : ℕ) (w : Walk) (o : List ℕ) → NopsRest at n w o n w o
+nops-start at n w o = record { goes = λ ps e. (ps, e, λ m. refl); outs = refl }
 
-nops-on : (left : ℕ) (v z : Walk) (o o′ : List ℕ) (qs : List ℕ) → 0 < left → length qs ≡ left → Emitted (instr Nop 0) v o z o′ →
-    (rs : List ℕ) × (length rs ≡ left - 1) × ((m : List ℕ) → onward (ran z o′ m) (run (nops rs)) ≡ onward (ran v o m) (run (nops qs)))
+nops-on : (at left : ℕ) (v z : Walk) (o o′ : List ℕ) (qs : List ℕ) → 0 < left → length qs ≡ left → Emitted (instr at Nop 0) v o z o′ →
+    (rs : List ℕ) × (length rs ≡ left - 1) × ((m : List ℕ) → onward (ran z o′ m) (run (nops at rs)) ≡ onward (ran v o m) (run (nops at qs)))
 unfolding nops run
-nops-on left v z o o′ [] h e d = absurd (omega (arith, e))
-nops-on left v z o o′ (q ∷ rs) h e d =
-    (rs, omega (arith, e), λ m. ap (λ x. onward x (run (nops rs))) (d .did m .same) ∙ onward-assoc (ran v o m) (run (instr Nop 0)) (run (nops rs)))
+nops-on at left v z o o′ [] h e d = absurd (omega (arith, e))
+nops-on at left v z o o′ (q ∷ rs) h e d =
+    (rs, omega (arith, e), λ m. ap (λ x. onward x (run (nops at rs))) (d .did m .same) ∙ onward-assoc (ran v o m) (run (instr at Nop 0)) (run (nops at rs)))
 
-pub nops-next : {n : ℕ} {w : Walk} {o : List ℕ} {left : ℕ} {v z : Walk} {o₁ o₂ : List ℕ} → NopsRest n w o left v o₁ → 0 < left → Emitted (instr Nop 0) v o₁ z o₂ → NopsRest n w o (left - 1) z o₂
-nops-next {left = left} {v = v} {z = z} {o₁ = o₁} {o₂ = o₂} r h d = record {
-  goes = λ ps e. let k = r .goes ps e in let j = nops-on left v z o₁ o₂ (k .0) h (k .1) d in (j .0, j .1, λ m. j .2 m ∙ k .2 m);
+pub nops-next : {at n : ℕ} {w : Walk} {o : List ℕ} {left : ℕ} {v z : Walk} {o₁ o₂ : List ℕ} → NopsRest at n w o left v o₁ → 0 < left → Emitted (instr at Nop 0) v o₁ z o₂ → NopsRest at n w o (left - 1) z o₂
+nops-next {at} {left = left} {v = v} {z = z} {o₁ = o₁} {o₂ = o₂} r h d = record {
+  goes = λ ps e. let k = r .goes ps e in let j = nops-on at left v z o₁ o₂ (k .0) h (k .1) d in (j .0, j .1, λ m. j .2 m ∙ k .2 m);
   outs = d .did [] .outs ∙ r .outs;
 }
 
-no-nops : (qs : List ℕ) → length qs ≡ 0 → nops qs ≡ done
+no-nops : (at : ℕ) (qs : List ℕ) → length qs ≡ 0 → nops at qs ≡ done
 unfolding nops
-no-nops [] e = refl
-no-nops (q ∷ qs) e = absurd (omega (arith, e))
+no-nops at [] e = refl
+no-nops at (q ∷ qs) e = absurd (omega (arith, e))
 
-pub nops-end : {n : ℕ} {w : Walk} {o : List ℕ} {left : ℕ} {v : Walk} {o₁ : List ℕ} → NopsRest n w o left v o₁ → left ≤ 0 → (ps : List ℕ) → length ps ≡ n → Emitted (nops ps) w o v o₁
+pub nops-end : {at n : ℕ} {w : Walk} {o : List ℕ} {left : ℕ} {v : Walk} {o₁ : List ℕ} → NopsRest at n w o left v o₁ → left ≤ 0 → (ps : List ℕ) → length ps ≡ n → Emitted (nops at ps) w o v o₁
 unfolding run
-nops-end {v = v} {o₁ = o₁} r h ps e = record {
+nops-end {at} {v = v} {o₁ = o₁} r h ps e = record {
   did = λ m. let k = r .goes ps e in
-      let z : nops (k .0) ≡ done = no-nops (k .0) (omega (arith, k .1)) in
-      let y : onward (ran v o₁ m) (run done) ≡ onward _ (run (nops ps)) = ap (λ c. onward (ran v o₁ m) (run c)) (sym z) ∙ k .2 m in
+      let z : nops at (k .0) ≡ done = no-nops at (k .0) (omega (arith, k .1)) in
+      let y : onward (ran v o₁ m) (run done) ≡ onward _ (run (nops at ps)) = ap (λ c. onward (ran v o₁ m) (run c)) (sym z) ∙ k .2 m in
       record { same = sym (onward-made (ran v o₁ m)) ∙ y; outs = r .outs; marked = refl };
 }
 

@@ -130,7 +130,7 @@ unfoldable pub spanOf : declared.BlockSpan.BlockSpan → BlockSpan
 spanOf u = record { breakTarget = targetOf (u .«break_target»); continueTarget = targetOf (u .«continue_target»); returns = u .returns }
 
 abbrev pub instrOf : declared.Op.Op → Instr
-instrOf o = record { tag = o .tag; small = o .small; first = o .first; second = o .second; line = o .line; flags = o .flags; value = o .value }
+instrOf o = record { tag = o .tag; small = o .small; first = o .first; second = o .second; line = o .line; flags = o .flags; value = o .value; node = o .node }
 
 unfoldable pub ran : Walk → (out marks : List ℕ) → Result Cells
 ran (Going c) o m = made (record { offset = c .offset; labels = c .labels; count = c .count; out = o; marks = m })
@@ -177,7 +177,7 @@ defaultOf there d s end at = defaultAnswer (defaultFrom there d s end at)
 unfoldable pub midCode : List (Expr × Block) → (at first index : ℕ) → Default → BlockSpan → Code
 midCode cs at first index d span =
     label at λ body. many at (lengthCases (casesOf cs))
-    (lowerMatchers (casesOf cs) at first body then instr SwitchDefault 0 then jump Jump (body + lengthCases (casesOf cs)) then
+    (lowerMatchers (casesOf cs) at first body then instr at SwitchDefault 0 then jump at Jump (body + lengthCases (casesOf cs)) then
     lowerBodies (casesOf cs) index body (body + lengthCases (casesOf cs)) (lowerDefault d span) span)
 
 -- the cases of a switch, where what follows its value stands at p
@@ -196,7 +196,7 @@ unfoldable pub insideCode : (depth : ℕ) (s : List ℕ) (stop p site first : �
 insideCode d s stop p site first span =
     let default = defaultOf (getD s (p + 4) 0) d s stop (endOf s (p + 5)) in
     codeOf (λ cs. cond (midDefault default (number 4 s p) (casesOf cs)) (midCode cs site first (number 4 s p) default span)
-    (lowerCases (casesOf cs) site first none span then lowerLast default span)) (casesFrom d s p)
+    (lowerCases (casesOf cs) site first none span then lowerLast default site span)) (casesFrom d s p)
 
 -- the body label of the group that is open, or the next
 unfoldable pub groupLabel : Target → Walk → ℕ
@@ -213,14 +213,14 @@ unfoldable pub constCode : (s : List ℕ) (at : ℕ) → Code
 constCode s at =
     let b = getD s (at + 5) 0 in
     let v = number (getD constWidths b 0) s (at + 6) in
-    instr (constTag b v) v
+    instr at (constTag b v) v
 
-unfoldable pub elementCode : (local type i : ℕ) → Code
-elementCode l t i = emits (plain Assign 0 0 ∷ plain ArrayElement 0 t ∷ plain Local 0 l ∷ plain U64Const 0 i ∷ [])
+unfoldable pub elementCode : (at local type i : ℕ) → Code
+elementCode at l t i = emits (plain at Assign 0 0 ∷ plain at ArrayElement 0 t ∷ plain at Local 0 l ∷ plain at U64Const 0 i ∷ [])
 
 -- a Nop for each of n parameters, whatever their marks
-abbrev pub Nops : (n : ℕ) (w : Walk) (o : List ℕ) (r : Walk) (o′ : List ℕ) → Type 0
-Nops n w o r o′ = (ps : List ℕ) → length ps ≡ n → Emitted (nops ps) w o r o′
+abbrev pub Nops : (at n : ℕ) (w : Walk) (o : List ℕ) (r : Walk) (o′ : List ℕ) → Type 0
+Nops at n w o r o′ = (ps : List ℕ) → length ps ≡ n → Emitted (nops at ps) w o r o′
 
 -- a mark, where it is to be made
 unfoldable pub markIf : (here l : ℕ) → Code
@@ -236,27 +236,27 @@ sameAs k index = cond (eqb k index) 1 0
 unfoldable pub constructCode : (d : ℕ) (s : List ℕ) (stop at : ℕ) → Code
 constructCode d s stop at =
     let n = length (listOf (exprsFrom d s stop (at + 13))) in
-    require (ltb n 256) 12 at n then act (emit (plain Construct n (number 4 s (at + 5))))
+    require (ltb n 256) 12 at n then act (emit (plain at Construct n (number 4 s (at + 5))))
 
 unfoldable pub intrinsicCode : (s : List ℕ) (at : ℕ) → Code
 intrinsicCode s at =
     let i = intrinsicOf (getD s (at + 5) 0) in
-    require (eqb (getD s (at + 6) 0) 0 && eqb (getD s (at + 7) 0) (i .types)) 14 at 0 then act (emit (plain (i .tag) (i .small) (number 4 s (at + 8))))
+    require (eqb (getD s (at + 6) 0) 0 && eqb (getD s (at + 7) 0) (i .types)) 14 at 0 then act (emit (plain at (i .tag) (i .small) (number 4 s (at + 8))))
 
 unfoldable pub heads : (d : ℕ) (s : List ℕ) (stop at : ℕ) → List Code
 heads d s stop at =
     done
-    ∷ instr Nop 0
+    ∷ instr at Nop 0
     ∷ constCode s at
-    ∷ instr (nullTag (getD s (at + 5) 0)) 0
-    ∷ instr New (number 4 s (at + 5))
+    ∷ instr at (nullTag (getD s (at + 5) 0)) 0
+    ∷ instr at New (number 4 s (at + 5))
     ∷ constructCode d s stop at
-    ∷ instr Assign 0
+    ∷ instr at Assign 0
     ∷ done
-    ∷ instr (elementTag (getD s (at + 5) 0)) (number 4 s (at + 6))
+    ∷ instr at (elementTag (getD s (at + 5) 0)) (number 4 s (at + 6))
     ∷ done
-    ∷ act (emit (plain DynamicCast (getD s (at + 9) 0) (number 4 s (at + 5))))
-    ∷ instr (localTag (getD s (at + 5) 0)) (number 4 s (at + 6))
+    ∷ act (emit (plain at DynamicCast (getD s (at + 9) 0) (number 4 s (at + 5))))
+    ∷ instr at (localTag (getD s (at + 5) 0)) (number 4 s (at + 6))
     ∷ intrinsicCode s at
     ∷ []
 

@@ -74,49 +74,59 @@ pub fn flags_of(s: &[u8], at: usize, end: usize, depth: usize) -> u16
     flags
 }
 
-// InvokeStatic with the function where any flag bit is set, else InvokeVirtual with the name.
+// InvokeStatic with the function where any flag bit is set, else InvokeVirtual with the name, for the call at `site`.
 pub fn emit_invoke(
     s: &[u8],
     at: usize,
     end: usize,
     depth: usize,
+    site: usize,
     exit: usize,
     w: Walk,
     out: &mut [u8],
 ) -> Walk
     requires { ⌜ Called depth (now s) end at ⌝ }
     requires { ⌜ end ≤ length (now s) ⌝ }
-    ensures { λ r. ⌜ Emitted (emitInvoke (calleeAt (now (s .entry)) at .flags) exit (calleeAt (now (s .entry)) at .line) (flagsOf (exprsOf (listOf (exprsFrom depth (now (s .entry)) end (argsAt (now (s .entry)) at)))) 1) (calleeAt (now (s .entry)) at .function) (calleeAt (now (s .entry)) at .name)) w (now (out .entry)) r (now (out .exit)) ⌝ }
+    ensures { λ r. ⌜ Emitted (emitInvoke site (calleeAt (now (s .entry)) at .flags) exit (calleeAt (now (s .entry)) at .line) (flagsOf (exprsOf (listOf (exprsFrom depth (now (s .entry)) end (argsAt (now (s .entry)) at)))) 1) (calleeAt (now (s .entry)) at .function) (calleeAt (now (s .entry)) at .name)) w (now (out .entry)) r (now (out .exit)) ⌝ }
 {
     let first = at + 16 + wide(s[at + 11]);
     let flags = flags_of(s, first, end, depth);
     let line = u16_at(s, at + 8);
     if s[at + 10] == 0 {
         let name = u32_at(s, at + 4);
-        return invoke(w, tag::INVOKE_VIRTUAL, exit, line, flags, name, out);
+        return invoke(w, site, tag::INVOKE_VIRTUAL, exit, line, flags, name, out);
     }
     let function = u32_at(s, at);
-    invoke(w, tag::INVOKE_STATIC, exit, line, flags, function, out)
+    invoke(
+        w,
+        site,
+        tag::INVOKE_STATIC,
+        exit,
+        line,
+        flags,
+        function,
+        out,
+    )
 }
 
-// A Nop for each of n parameters that are absent.
-pub fn nops(w: Walk, n: usize, out: &mut [u8]) -> Walk
-    ensures { λ r. ⌜ Nops n w (now (out .entry)) r (now (out .exit)) ⌝ }
+// A Nop for each of n parameters that are absent in the call at `site`.
+pub fn nops(w: Walk, site: usize, n: usize, out: &mut [u8]) -> Walk
+    ensures { λ r. ⌜ Nops site n w (now (out .entry)) r (now (out .exit)) ⌝ }
 {
     let mut v = w;
     let mut left = n;
     while 0 < left {
-        v = plain(v, tag::NOP, 0, 0, out);
+        v = plain(v, site, tag::NOP, 0, 0, out);
         left -= 1;
     }
     v
 }
 
-pub fn weak_to_ref(w: Walk, weak: usize, out: &mut [u8]) -> Walk
-    ensures { λ r. ⌜ Emitted (weakToRef weak) w (now (out .entry)) r (now (out .exit)) ⌝ }
+pub fn weak_to_ref(w: Walk, at: usize, weak: usize, out: &mut [u8]) -> Walk
+    ensures { λ r. ⌜ Emitted (weakToRef at weak) w (now (out .entry)) r (now (out .exit)) ⌝ }
 {
     if weak == 0 {
         return w;
     }
-    plain(w, tag::WEAK_REF_TO_REF, 0, 0, out)
+    plain(w, at, tag::WEAK_REF_TO_REF, 0, 0, out)
 }

@@ -38,7 +38,7 @@ pub(crate) fn construct(
 {
     let n = count(s, at + 13, stop, depth);
     let w1 = require(w, n < 256, 12, at, n);
-    plain(w1, tag::CONSTRUCT, n, u32_at(s, at + 5), out)
+    plain(w1, at, tag::CONSTRUCT, n, u32_at(s, at + 5), out)
 }
 
 pub(crate) fn intrinsic(s: &[u8], at: usize, w: Walk, out: &mut [u8]) -> Walk
@@ -50,6 +50,7 @@ pub(crate) fn intrinsic(s: &[u8], at: usize, w: Walk, out: &mut [u8]) -> Walk
     let w1 = require(w, fits, 14, at, 0);
     plain(
         w1,
+        at,
         intrinsic_tag(code),
         intrinsic_small(code),
         u32_at(s, at + 8),
@@ -65,26 +66,26 @@ pub fn head(s: &[u8], at: usize, end: usize, depth: usize, w: Walk, out: &mut [u
 {
     let kind = s[at + 4];
     match kind {
-        expr::NOP => plain(w, tag::NOP, 0, 0, out),
+        expr::NOP => plain(w, at, tag::NOP, 0, 0, out),
         expr::CONST => constant(s, at, w, out),
-        expr::NULL => plain(w, null_tag(byte_at(s, at + 5)), 0, 0, out),
-        expr::NEW_INSTANCE => plain(w, tag::NEW, 0, u32_at(s, at + 5), out),
+        expr::NULL => plain(w, at, null_tag(byte_at(s, at + 5)), 0, 0, out),
+        expr::NEW_INSTANCE => plain(w, at, tag::NEW, 0, u32_at(s, at + 5), out),
         expr::CONSTRUCT => {
             let stop = end_of(s, at);
             construct(s, at, stop, depth - 1, w, out)
         }
-        expr::ASSIGN => plain(w, tag::ASSIGN, 0, 0, out),
+        expr::ASSIGN => plain(w, at, tag::ASSIGN, 0, 0, out),
         expr::INDEX => {
             let t = element_tag(byte_at(s, at + 5));
-            plain(w, t, 0, u32_at(s, at + 6), out)
+            plain(w, at, t, 0, u32_at(s, at + 6), out)
         }
         expr::DYN_CAST => {
             let weak = wide(byte_at(s, at + 9));
-            plain(w, tag::DYNAMIC_CAST, weak, u32_at(s, at + 5), out)
+            plain(w, at, tag::DYNAMIC_CAST, weak, u32_at(s, at + 5), out)
         }
         expr::LOCAL => {
             let t = local_tag(byte_at(s, at + 5));
-            plain(w, t, 0, u32_at(s, at + 6), out)
+            plain(w, at, t, 0, u32_at(s, at + 6), out)
         }
         expr::INTRINSIC_CALL => intrinsic(s, at, w, out),
         _ => w,

@@ -48,4 +48,5 @@ pub struct Op {
     pub line: u16,
     pub flags: u16,
     pub value: u64,
+    pub node: usize,
 }

@@ -53,24 +53,24 @@ pub fn constant(s: &[u8], at: usize, w: Walk, out: &mut [u8]) -> Walk
 {
     let byte = wide(s[at + 5]);
     let value = value_at(s, at + 6, byte);
-    plain(w, const_tag(byte, value), 0, value as usize, out)
+    plain(w, at, const_tag(byte, value), 0, value as usize, out)
 }
 
-pub fn returned(w: Walk, out: &mut [u8]) -> Walk
-    ensures { λ r. ⌜ Emitted lowerReturnNothing w (now (out .entry)) r (now (out .exit)) ⌝ }
+pub fn returned(w: Walk, at: usize, out: &mut [u8]) -> Walk
+    ensures { λ r. ⌜ Emitted (lowerReturnNothing at) w (now (out .entry)) r (now (out .exit)) ⌝ }
 {
-    let w1 = plain(w, tag::RETURN, 0, 0, out);
-    plain(w1, tag::NOP, 0, 0, out)
+    let w1 = plain(w, at, tag::RETURN, 0, 0, out);
+    plain(w1, at, tag::NOP, 0, 0, out)
 }
 
-// What stands before the element number i of an InitArray.
-pub fn element(w: Walk, local: usize, typ: usize, i: usize, out: &mut [u8]) -> Walk
-    ensures { λ r. ⌜ Emitted (elementCode local typ i) w (now (out .entry)) r (now (out .exit)) ⌝ }
+// What stands before the element number i of the InitArray at `at`.
+pub fn element(w: Walk, at: usize, local: usize, typ: usize, i: usize, out: &mut [u8]) -> Walk
+    ensures { λ r. ⌜ Emitted (elementCode at local typ i) w (now (out .entry)) r (now (out .exit)) ⌝ }
 {
-    let w1 = plain(w, tag::ASSIGN, 0, 0, out);
-    let w2 = plain(w1, tag::ARRAY_ELEMENT, 0, typ, out);
-    let w3 = plain(w2, tag::LOCAL, 0, local, out);
-    plain(w3, tag::U64_CONST, 0, i, out)
+    let w1 = plain(w, at, tag::ASSIGN, 0, 0, out);
+    let w2 = plain(w1, at, tag::ARRAY_ELEMENT, 0, typ, out);
+    let w3 = plain(w2, at, tag::LOCAL, 0, local, out);
+    plain(w3, at, tag::U64_CONST, 0, i, out)
 }
 
 // The first four store the unit's index.
@@ -81,19 +81,19 @@ fn default_index(k: usize, i: usize) -> usize
 }
 
 // The value of a primitive's default, k of them after byte 5.
-pub(crate) fn primitive(w: Walk, k: usize, i: usize, out: &mut [u8]) -> Walk
-    ensures { λ r. ⌜ Emitted (emits (primitiveDefault k i)) w (now (out .entry)) r (now (out .exit)) ⌝ }
+pub(crate) fn primitive(w: Walk, at: usize, k: usize, i: usize, out: &mut [u8]) -> Walk
+    ensures { λ r. ⌜ Emitted (emits (primitiveDefault at k i)) w (now (out .entry)) r (now (out .exit)) ⌝ }
 {
     match tables::default_tag(k) {
         DefaultTag::NoValue => w,
-        DefaultTag::Is(tag) => plain(w, tag, 0, default_index(k, i), out),
+        DefaultTag::Is(tag) => plain(w, at, tag, 0, default_index(k, i), out),
     }
 }
 
 // InitDefault.
 pub fn init_default(s: &[u8], at: usize, w: Walk, out: &mut [u8]) -> Walk
     requires { ⌜ (at + 14 ≤ length (now s)) × (getD (now s) (at + 9) 0 < 23) ⌝ }
-    ensures { λ r. ⌜ Emitted (emits (defaultInstrs (number 4 (now (s .entry)) (at + 5)) (getD (now (s .entry)) (at + 9) 0) (number 4 (now (s .entry)) (at + 10)))) w (now (out .entry)) r (now (out .exit)) ⌝ }
+    ensures { λ r. ⌜ Emitted (emits (defaultInstrs at (number 4 (now (s .entry)) (at + 5)) (getD (now (s .entry)) (at + 9) 0) (number 4 (now (s .entry)) (at + 10)))) w (now (out .entry)) r (now (out .exit)) ⌝ }
 {
     let local = u32_at(s, at + 5);
     let byte = wide(s[at + 9]);
@@ -102,18 +102,18 @@ pub fn init_default(s: &[u8], at: usize, w: Walk, out: &mut [u8]) -> Walk
         return w;
     }
     if byte == 1 {
-        let a1 = plain(w, tag::ARRAY_CLEAR, 0, i, out);
-        return plain(a1, tag::LOCAL, 0, local, out);
+        let a1 = plain(w, at, tag::ARRAY_CLEAR, 0, i, out);
+        return plain(a1, at, tag::LOCAL, 0, local, out);
     }
-    let w1 = plain(w, tag::ASSIGN, 0, 0, out);
-    let w2 = plain(w1, tag::LOCAL, 0, local, out);
+    let w1 = plain(w, at, tag::ASSIGN, 0, 0, out);
+    let w2 = plain(w1, at, tag::LOCAL, 0, local, out);
     match byte {
-        2 => plain(w2, tag::CONSTRUCT, 0, i, out),
-        3 => plain(w2, tag::NULL, 0, 0, out),
+        2 => plain(w2, at, tag::CONSTRUCT, 0, i, out),
+        3 => plain(w2, at, tag::NULL, 0, 0, out),
         4 => {
-            let w3 = plain(w2, tag::I32_TO_ENUM, 1, i, out);
-            plain(w3, tag::I8_CONST, 0, 0, out)
+            let w3 = plain(w2, at, tag::I32_TO_ENUM, 1, i, out);
+            plain(w3, at, tag::I8_CONST, 0, 0, out)
         }
-        _ => primitive(w2, byte - 5, i, out),
+        _ => primitive(w2, at, byte - 5, i, out),
     }
 }

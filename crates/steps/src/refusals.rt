@@ -37,7 +37,7 @@ pub fn jump_to(w: Walk, number: usize, at: usize, target: Target, out: &mut [u8]
     ensures { λ r. ⌜ Emitted (jumpTo number at (targetOf target)) w (now (out .entry)) r (now (out .exit)) ⌝ }
 {
     match target {
-        Target::Label(l) => jump(w, tag::JUMP, l, out),
+        Target::Label(l) => jump(w, at, tag::JUMP, l, out),
         Target::Nowhere => refuse(w, number, at, 0),
     }
 }

@@ -8,7 +8,7 @@ use samples::text;
 type Marks = [u32; 65536];
 
 // The resolved listing of 32,761 Nops in a loop, and more.
-type Code = [u8; 600000];
+type Code = [u8; 750000];
 
 fn counted(lowered: Lowered) {
     if let Lowered::Done(c) = lowered {
@@ -30,7 +30,7 @@ fn first_line(n: usize, page: &mut [u8], out: &mut [u8], marks: &mut Marks, code
 
 fn try_unit(name: &[u8], n: usize, page: &mut [u8], out: &mut [u8]) {
     let mut marks: Marks = [0; 65536];
-    let mut code: Code = [0; 600000];
+    let mut code: Code = [0; 750000];
     io::write_all(1, name);
     io::write_all(1, b": ");
     first_line(n, page, out, &mut marks, &mut code);

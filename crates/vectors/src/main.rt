@@ -10,7 +10,7 @@ mod show;
 type Page = [u8; 1400000];
 
 // Seven bytes more than the largest unit here takes.
-type Listing = [u8; 3538848];
+type Listing = [u8; 4325256];
 
 // The buffers are lent whole: a parameter's length needs no computing.
 fn run(page: &mut Page, out: &mut Listing) {
@@ -23,6 +23,6 @@ fn run(page: &mut Page, out: &mut Listing) {
 
 fn main() {
     let mut page: Page = [0; 1400000];
-    let mut out: Listing = [0; 3538848];
+    let mut out: Listing = [0; 4325256];
     run(&mut page, &mut out);
 }

@@ -6,7 +6,7 @@ use samples::text;
 // The longest unit of the files has 1,806 bytes: no more records and no more labels than bytes.
 type Unit = [u8; 2048];
 
-type Listing = [u8; 36869];
+type Listing = [u8; 45061];
 
 type Marks = [u32; 2048];
 
@@ -79,9 +79,9 @@ fn stage_with(
 }
 
 fn stage_agrees(unit: &[u8], words: &[u8]) -> bool {
-    let mut listing: Listing = [0; 36869];
+    let mut listing: Listing = [0; 45061];
     let mut marks: Marks = [0; 2048];
-    let mut code: Listing = [0; 36869];
+    let mut code: Listing = [0; 45061];
     let mut out: Words = [0; 16384];
     stage_with(unit, words, &mut listing, &mut marks, &mut code, &mut out)
 }
@@ -99,7 +99,7 @@ fn labelled_with(
 }
 
 fn labelled_agrees(unit: &[u8], words: &[u8]) -> bool {
-    let mut listing: Listing = [0; 36869];
+    let mut listing: Listing = [0; 45061];
     let mut marks: Marks = [0; 2048];
     let mut out: Words = [0; 16384];
     labelled_with(unit, words, &mut listing, &mut marks, &mut out)

@@ -14,7 +14,7 @@ const WORD: u32 = 0xA5A5A5A5;
 // Two words and five bytes more than the units here take.
 type Marks = [u32; 65538];
 
-type Code = [u8; 100];
+type Code = [u8; 120];
 
 fn fill_bytes(out: &mut [u8]) {
     let mut i = 0;
@@ -120,21 +120,21 @@ fn lower_in(
 
 // 65,534 branches: three records for each, and two labels more than branches.
 fn enough(unit: &[u8], out: &mut [u8], marks: &mut [u32]) {
-    lower_in(b"lowering, room to spare", unit, out, marks, 3538848, 65538);
+    lower_in(b"lowering, room to spare", unit, out, marks, 4325256, 65538);
     lower_in(
         b"lowering, exactly enough",
         unit,
         out,
         marks,
-        3538841,
+        4325249,
         65536,
     );
 }
 
 fn too_little(unit: &[u8], out: &mut [u8], marks: &mut [u32]) {
-    lower_in(b"lowering, a byte short", unit, out, marks, 3538840, 65536);
-    lower_in(b"lowering, a word short", unit, out, marks, 3538841, 65535);
-    lower_in(b"lowering, both short", unit, out, marks, 3538840, 65535);
+    lower_in(b"lowering, a byte short", unit, out, marks, 4325248, 65536);
+    lower_in(b"lowering, a word short", unit, out, marks, 4325249, 65535);
+    lower_in(b"lowering, both short", unit, out, marks, 4325248, 65535);
     lower_in(b"lowering, no room", unit, out, marks, 0, 0);
 }
 
@@ -166,9 +166,9 @@ fn resolve_in(name: &[u8], listing: &[u8], marks: &[u32], code: &mut [u8], bytes
 
 // Five records: a While on false with two Nops.
 fn resolving(listing: &[u8], marks: &[u32], code: &mut [u8]) {
-    resolve_in(b"resolving, room to spare", listing, marks, code, 100);
-    resolve_in(b"resolving, exactly enough", listing, marks, code, 95);
-    resolve_in(b"resolving, a byte short", listing, marks, code, 94);
+    resolve_in(b"resolving, room to spare", listing, marks, code, 120);
+    resolve_in(b"resolving, exactly enough", listing, marks, code, 115);
+    resolve_in(b"resolving, a byte short", listing, marks, code, 114);
     resolve_in(b"resolving, no room", listing, marks, code, 0);
 }
 
@@ -188,7 +188,7 @@ fn small(page: &mut [u8], out: &mut [u8], marks: &mut Marks, code: &mut Code) {
 
 pub fn all(page: &mut [u8], out: &mut [u8]) {
     let mut marks: Marks = [0; 65538];
-    let mut code: Code = [0; 100];
+    let mut code: Code = [0; 120];
     lowering(page, out, &mut marks);
     small(page, out, &mut marks, &mut code);
 }

@@ -78,7 +78,7 @@ abbrev pub armOf : (d : ℕ) (s : List ℕ) → ℕ → Parser (Expr × Block)
 armOf d s = arm s (parseExpr d s) (parseStmt d s)
 
 case-cons : (site next : ℕ) (group : Option ℕ) (sc : BlockSpan) (x : Expr × Block) (xs : List (Expr × Block)) → lowerCases (casesOf (x ∷ xs)) site next group sc ≡
-    inGroup group site (λ body. act (mark next) then label site (λ next′. jumps SwitchLabel next′ body then lowerExpr (x .0) then
+    inGroup group site (λ body. act (mark next) then label site (λ next′. jumps site SwitchLabel next′ body then lowerExpr (x .0) then
     cond (endsGroup (x .1) (casesOf xs)) (act (mark body) then lowerBlock (x .1) sc then lowerCases (casesOf xs) site next′ none sc) (lowerCases (casesOf xs) site next′ (some body) sc)))
 unfolding lowerStmt casesOf
 case-cons site next group sc x xs = refl
@@ -128,7 +128,7 @@ module _ {d : ℕ} {s : List ℕ} {end site : ℕ} {sc : BlockSpan} {code : Code
   pub cases-next : (second third body next′ : ℕ) (ends : Bool) (group′ : Target) (v₁ : Walk) (m₂ : List ℕ) (v₂ : Walk) (m₃ : List ℕ) (v₃ : Walk) (m₄ : List ℕ) (v₄ : Walk) (o₅ m₅ : List ℕ) →
       second ≡ endOf s i → third ≡ endOf s second → ends ≡ (ltb (second + 4) third || leb end third) → body ≡ groupLabel group v →
       Labelled (openCode group site) v m₁ v₁ m₂ → Labelled (act (mark next)) v₁ m₂ v₂ m₃ → next′ ≡ labelsOf v₂ → Labelled (act (new site)) v₂ m₃ v₃ m₄ →
-      Did (armCode (λ c b. jumps SwitchLabel next′ body then lowerExpr c then ending ends body (lowerBlock b sc)) d s end i) v₃ o₁ m₄ v₄ o₅ m₅ →
+      Did (armCode (λ c b. jumps site SwitchLabel next′ body then lowerExpr c then ending ends body (lowerBlock b sc)) d s end i) v₃ o₁ m₄ v₄ o₅ m₅ →
       targetOf group′ ≡ cond ends none (some body) →
       CasesRest d s end site sc code w o m next′ group′ third v₄ o₅ m₅
   cases-next second third body next′ ends group′ v₁ m₂ v₂ m₃ v₃ m₄ v₄ o₅ m₅ e f g b op mk q nw did gr =
@@ -142,7 +142,7 @@ module _ {d : ℕ} {s : List ℕ} {end site : ℕ} {sc : BlockSpan} {code : Code
             (goes-on (group-step group site _ body b op)
             (goes-on (one-step _ (labelled mk))
             (goes-on (fresh-step site _ next′ q (labelled nw))
-            (goes-on (renamed _ _ _ (ap (λ z. jumps SwitchLabel next′ body then lowerExpr (k .item .0) then
+            (goes-on (renamed _ _ _ (ap (λ z. jumps site SwitchLabel next′ body then lowerExpr (k .item .0) then
             cond z (act (mark body) then lowerBlock (k .item .1) sc then lowerCases (casesOf (k .others)) site next′ none sc) (lowerCases (casesOf (k .others)) site next′ (some body) sc)) (sym n)))
             (goes-on (case-tail ends _ _ _ _ _ body (recode (sym (arm-code-is _ d s end i (k .item) (k .next) (k .reads))) did))
             (renamed _ _ _ (cases-rest ends (k .others) site next′ body sc (targetOf group′) gr))))))));
@@ -156,7 +156,7 @@ cases-end {d} {s} {end} r h k = goes-last (rest-end _ _ _ _ _ _ _ _ _ _ _ (arm-m
 -- 4. Branches
 
 branch-cons : (site next exit : ℕ) (sc : BlockSpan) (x : Expr × Block) (xs : List (Expr × Block)) → lowerBranches (branchesOf (x ∷ xs)) site next exit sc ≡
-    jump JumpIfFalse next then (lowerExpr (x .0) then (lowerBlock (x .1) sc then (jump Jump exit then (act (mark next) then label site (λ next′. lowerBranches (branchesOf xs) site next′ exit sc)))))
+    jump site JumpIfFalse next then (lowerExpr (x .0) then (lowerBlock (x .1) sc then (jump site Jump exit then (act (mark next) then label site (λ next′. lowerBranches (branchesOf xs) site next′ exit sc)))))
 unfolding lowerStmt branchesOf
 branch-cons site next exit sc x xs = refl
 
@@ -180,7 +180,7 @@ module _ {d : ℕ} {s : List ℕ} {end site exit : ℕ} {sc : BlockSpan} {code :
   arms-arm second third e f = let k = arms-turn in arm-here d s end i (k .item, k .next, k .reads) second third e f
 
   pub arms-next : (second third next′ : ℕ) (v₁ : Walk) (o₂ m₂ : List ℕ) (v₂ : Walk) (m₃ : List ℕ) → second ≡ endOf s i → third ≡ endOf s second →
-      Did (armCode (λ c b. jump JumpIfFalse next then lowerExpr c then lowerBlock b sc then jump Jump exit then act (mark next)) d s end i) v o₁ m₁ v₁ o₂ m₂ →
+      Did (armCode (λ c b. jump site JumpIfFalse next then lowerExpr c then lowerBlock b sc then jump site Jump exit then act (mark next)) d s end i) v o₁ m₁ v₁ o₂ m₂ →
       next′ ≡ labelsOf v₁ → Labelled (act (new site)) v₁ m₂ v₂ m₃ → ArmsRest d s end site exit sc code w o m next′ third v₂ o₂ m₃
   arms-next second third next′ v₁ o₂ m₂ v₂ m₃ e f did q nw =
       let k = arms-turn in
@@ -202,7 +202,7 @@ arms-end {d} {s} {end} r h = goes-end (rest-end _ _ _ _ _ _ _ _ _ _ _ (arm-moves
 -- 5. The matchers of a switch with a mid default
 
 matcher-cons : (site next body : ℕ) (x : Expr × Block) (xs : List (Expr × Block)) → lowerMatchers (casesOf (x ∷ xs)) site next body ≡
-    act (mark next) then label site (λ next′. jumps SwitchLabel next′ body then lowerExpr (x .0) then lowerMatchers (casesOf xs) site next′ (body + 1))
+    act (mark next) then label site (λ next′. jumps site SwitchLabel next′ body then lowerExpr (x .0) then lowerMatchers (casesOf xs) site next′ (body + 1))
 unfolding lowerStmt casesOf
 matcher-cons site next body x xs = refl
 
@@ -223,7 +223,7 @@ module _ {d : ℕ} {s : List ℕ} {end site : ℕ} {code : Code} {w : Walk} {o m
   heads-arm second third e f = let k = heads-turn in arm-here d s end i (k .item, k .next, k .reads) second third e f
 
   pub heads-next : (second third next′ : ℕ) (v₁ : Walk) (m₂ : List ℕ) (v₂ : Walk) (m₃ : List ℕ) (v₃ : Walk) (o₃ : List ℕ) (v₄ : Walk) (o₄ m₄ : List ℕ) → second ≡ endOf s i → third ≡ endOf s second →
-      Labelled (act (mark next)) v m₁ v₁ m₂ → next′ ≡ labelsOf v₁ → Labelled (act (new site)) v₁ m₂ v₂ m₃ → Emitted (jumps SwitchLabel next′ body) v₂ o₁ v₃ o₃ → Did (exprCode d s end i) v₃ o₃ m₃ v₄ o₄ m₄ →
+      Labelled (act (mark next)) v m₁ v₁ m₂ → next′ ≡ labelsOf v₁ → Labelled (act (new site)) v₁ m₂ v₂ m₃ → Emitted (jumps site SwitchLabel next′ body) v₂ o₁ v₃ o₃ → Did (exprCode d s end i) v₃ o₃ m₃ v₄ o₄ m₄ →
       HeadsRest d s end site code w o m next′ (body + 1) third v₄ o₄ m₄
   heads-next second third next′ v₁ m₂ v₂ m₃ v₃ o₃ v₄ o₄ m₄ e f mk q nw j did =
       let k = heads-turn in
@@ -246,34 +246,34 @@ heads-end {d} {s} {end} r h k = goes-last (rest-end _ _ _ _ _ _ _ _ _ _ _ (arm-m
 
 -- 6. The elements of an InitArray
 
-element-cons : (local type k : ℕ) (x : Expr) (xs : List Expr) → lowerElements (exprsOf (x ∷ xs)) local type k ≡ elementCode local type k then (lowerExpr x then lowerElements (exprsOf xs) local type (k + 1))
+element-cons : (site local type k : ℕ) (x : Expr) (xs : List Expr) → lowerElements (exprsOf (x ∷ xs)) site local type k ≡ elementCode site local type k then (lowerExpr x then lowerElements (exprsOf xs) site local type (k + 1))
 unfolding lowerElements exprsOf elementCode
-element-cons local type k x xs = refl
+element-cons site local type k x xs = refl
 
-pub record ElemsRest (d : ℕ) (s : List ℕ) (end local type : ℕ) (code : Code) (w : Walk) (o m : List ℕ) (k i : ℕ) (v : Walk) (o′ m′ : List ℕ) : Type 0 where
-  pub rest : Rest (parseExpr d s) (λ xs. lowerElements (exprsOf xs) local type k) code end w o m i v o′ m′
+pub record ElemsRest (d : ℕ) (s : List ℕ) (end site local type : ℕ) (code : Code) (w : Walk) (o m : List ℕ) (k i : ℕ) (v : Walk) (o′ m′ : List ℕ) : Type 0 where
+  pub rest : Rest (parseExpr d s) (λ xs. lowerElements (exprsOf xs) site local type k) code end w o m i v o′ m′
   pub few : k ≤ i
 
-pub elems-start : (d : ℕ) (s : List ℕ) (end at local type : ℕ) (w : Walk) (o m : List ℕ) → at ≤ end → Accepted (exprsFrom d s end at) →
-    ElemsRest d s end local type (codeOf (λ xs. lowerElements (exprsOf xs) local type 0) (exprsFrom d s end at)) w o m 0 at w o m
-elems-start d s end at local type w o m h acc = record { rest = rest-start (parseExpr d s) (λ xs. lowerElements (exprsOf xs) local type 0) end at w o m h acc; few = omega arith }
+pub elems-start : (d : ℕ) (s : List ℕ) (end at site local type : ℕ) (w : Walk) (o m : List ℕ) → at ≤ end → Accepted (exprsFrom d s end at) →
+    ElemsRest d s end site local type (codeOf (λ xs. lowerElements (exprsOf xs) site local type 0) (exprsFrom d s end at)) w o m 0 at w o m
+elems-start d s end at site local type w o m h acc = record { rest = rest-start (parseExpr d s) (λ xs. lowerElements (exprsOf xs) site local type 0) end at w o m h acc; few = omega arith }
 
-module _ {d : ℕ} {s : List ℕ} {end local type : ℕ} {code : Code} {w : Walk} {o m : List ℕ} {k i : ℕ} {v : Walk} {o₁ m₁ : List ℕ} (r : ElemsRest d s end local type code w o m k i v o₁ m₁) (h : i < end) where
+module _ {d : ℕ} {s : List ℕ} {end site local type : ℕ} {code : Code} {w : Walk} {o m : List ℕ} {k i : ℕ} {v : Walk} {o₁ m₁ : List ℕ} (r : ElemsRest d s end site local type code w o m k i v o₁ m₁) (h : i < end) where
   pub elems-turn : Turn (parseExpr d s) end i (r .rest .list) (r .rest .last)
   elems-turn = turn (parseExpr d s) end i (expr-moves d s end) h (r .rest .reads)
 
-  pub elems-next : (next : ℕ) (v₁ : Walk) (o₂ : List ℕ) (v₂ : Walk) (o₃ m₃ : List ℕ) → next ≡ endOf s i → Emitted (elementCode local type k) v o₁ v₁ o₂ → Did (exprCode d s end i) v₁ o₂ m₁ v₂ o₃ m₃ →
-      ElemsRest d s end local type code w o m (k + 1) next v₂ o₃ m₃
+  pub elems-next : (next : ℕ) (v₁ : Walk) (o₂ : List ℕ) (v₂ : Walk) (o₃ m₃ : List ℕ) → next ≡ endOf s i → Emitted (elementCode site local type k) v o₁ v₁ o₂ → Did (exprCode d s end i) v₁ o₂ m₁ v₂ o₃ m₃ →
+      ElemsRest d s end site local type code w o m (k + 1) next v₂ o₃ m₃
   elems-next next v₁ o₂ v₂ o₃ m₃ f em did =
       let t = elems-turn in
       let z = expr-at d s end i (t .reads) in
       let q : t .next ≡ next = z .ends ∙ sym f in
       record {
-        rest = rest-next _ _ _ _ _ _ _ _ _ _ _ _ _ _ _ _ (r .rest) t q (omega (arith, z .tail, q)) (goes-on (renamed _ _ _ (element-cons local type k (t .item) (t .others))) (goes-on (one-step _ (emitted em)) (one-step _ (recode (child z) did))));
+        rest = rest-next _ _ _ _ _ _ _ _ _ _ _ _ _ _ _ _ (r .rest) t q (omega (arith, z .tail, q)) (goes-on (renamed _ _ _ (element-cons site local type k (t .item) (t .others))) (goes-on (one-step _ (emitted em)) (one-step _ (recode (child z) did))));
         few = omega (arith, r .few, z .head, q);
       }
 
-pub elems-end : {d : ℕ} {s : List ℕ} {end local type : ℕ} {code : Code} {w : Walk} {o m : List ℕ} {k i : ℕ} {v : Walk} {o₁ m₁ : List ℕ} → ElemsRest d s end local type code w o m k i v o₁ m₁ → end ≤ i → Did code w o m v o₁ m₁
+pub elems-end : {d : ℕ} {s : List ℕ} {end site local type : ℕ} {code : Code} {w : Walk} {o m : List ℕ} {k i : ℕ} {v : Walk} {o₁ m₁ : List ℕ} → ElemsRest d s end site local type code w o m k i v o₁ m₁ → end ≤ i → Did code w o m v o₁ m₁
 unfolding lowerElements exprsOf
 elems-end {d} {s} {end} r h = goes-end (rest-end _ _ _ _ _ _ _ _ _ _ _ (expr-moves d s end) h (r .rest))
 

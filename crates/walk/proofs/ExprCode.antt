@@ -97,7 +97,7 @@ module _ (depth : ℕ) (s : List ℕ) (end at : ℕ) (acc : Accepted (parseExpr 
       pub one : Here (depth - 1) s stop (at + 6) second
       pub call : Called (depth - 1) s stop second
       pub code : exprCode depth s end at ≡
-          (label at λ exit. jump Context exit then weakToRef weak then exprCode (depth - 1) s stop (at + 6) then callCode (depth - 1) s stop second at then act (mark exit))
+          (label at λ exit. jump at Context exit then weakToRef at weak then exprCode (depth - 1) s stop (at + 6) then callCode (depth - 1) s stop second at then act (mark exit))
 
     pub instance-here : (weak second : ℕ) → weak ≡ getD s (at + 5) 0 → second ≡ endOf s (at + 6) → getD s (at + 4) 0 ≡ 15 → InstanceHere weak second
     unfolding lowerExpr
@@ -107,7 +107,7 @@ module _ (depth : ℕ) (s : List ℕ) (end at : ℕ) (acc : Accepted (parseExpr 
         rw (← a, f) (record {
           one = here (k .one);
           call = called (k .call);
-          code = whole ∙ ap lowerExpr (k .tree) ∙ ap (λ c. label at λ exit. jump Context exit then weakToRef (getD s (at + 5) 0) then lowerExpr (k .receiver) then c then act (mark exit)) (sym (call-code at (k .call))) ∙ rw (child (k .one));
+          code = whole ∙ ap lowerExpr (k .tree) ∙ ap (λ c. label at λ exit. jump at Context exit then weakToRef at (getD s (at + 5) 0) then lowerExpr (k .receiver) then c then act (mark exit)) (sym (call-code at (k .call))) ∙ rw (child (k .one));
         })
 
     -- a closure call: the closure, its name and line at `second`, its arguments
@@ -116,8 +116,8 @@ module _ (depth : ℕ) (s : List ℕ) (end at : ℕ) (acc : Accepted (parseExpr 
       pub fits : second + 10 ≤ stop
       pub run : Accepted (exprsFrom (depth - 1) s stop (second + 10))
       pub code : exprCode depth s end at ≡
-          (label at λ context. jump Context context then exprCode (depth - 1) s stop (at + 5) then act (mark context) then
-          label at λ exit. invoke InvokeVirtual exit line 0 name then fillCode Expression (depth - 1) s stop (second + 10) span then instr ParamEnd 0 then act (mark exit))
+          (label at λ context. jump at Context context then exprCode (depth - 1) s stop (at + 5) then act (mark context) then
+          label at λ exit. invoke at InvokeVirtual exit line 0 name then fillCode Expression (depth - 1) s stop (second + 10) span then instr at ParamEnd 0 then act (mark exit))
 
     pub closure-here : (span : BlockSpan) (second name line : ℕ) → second ≡ endOf s (at + 5) → name ≡ number 4 s second → line ≡ number 2 s (second + 4) → getD s (at + 4) 0 ≡ 16 → ClosureHere span second name line
     unfolding lowerExpr codeOf
@@ -148,7 +148,7 @@ module _ (depth : ℕ) (s : List ℕ) (end at : ℕ) (acc : Accepted (parseExpr 
       pub three : Here (depth - 1) s stop third stop
       pub code : exprCode depth s end at ≡
           (label at λ else. label at λ exit.
-          jumps Conditional else exit then exprCode (depth - 1) s stop (at + 5) then exprCode (depth - 1) s stop second then
+          jumps at Conditional else exit then exprCode (depth - 1) s stop (at + 5) then exprCode (depth - 1) s stop second then
           act (mark else) then exprCode (depth - 1) s stop third then act (mark exit))
 
     pub conditional-here : (second third : ℕ) → second ≡ endOf s (at + 5) → third ≡ endOf s second → getD s (at + 4) 0 ≡ 9 → ConditionalHere second third
@@ -161,12 +161,12 @@ module _ (depth : ℕ) (s : List ℕ) (end at : ℕ) (acc : Accepted (parseExpr 
 
 -- the two forms of a field
 
-pub struct-field : {p : Code} (at form name : ℕ) → form ≡ 0 → lowerField at form name p ≡ instr StructField name then p
+pub struct-field : {p : Code} (at form name : ℕ) → form ≡ 0 → lowerField at form name p ≡ instr at StructField name then p
 unfolding lowerField
 struct-field at form name e = rw e
 
 pub object-field : {p : Code} (at form name : ℕ) → (form ≡ 0 → ⊥) →
-    lowerField at form name p ≡ (label at λ exit. jump Context exit then weakToRef (form - 1) then p then instr ObjectField name then act (mark exit))
+    lowerField at form name p ≡ (label at λ exit. jump at Context exit then weakToRef at (form - 1) then p then instr at ObjectField name then act (mark exit))
 unfolding lowerField
 object-field at zero name h = absurd (h refl)
 object-field at (suc f) name h = let z : suc f - 1 ≡ f = omega arith in rw z
@@ -176,8 +176,8 @@ object-field at (suc f) name h = let z : suc f - 1 ≡ f = omega arith in rw z
 pub call-parts : (d : ℕ) (s : List ℕ) (end p site n first : ℕ) → n ≡ getD s (p + 11) 0 → first ≡ p + 16 + n → Called d s end p →
     callCode d s end p site ≡
     (label site λ exit. requireFlags (exprsOf (listOf (exprsFrom d s end first))) 0 then
-    emitInvoke (calleeAt s p .flags) exit (calleeAt s p .line) (flagsOf (exprsOf (listOf (exprsFrom d s end (argsAt s p)))) 1) (calleeAt s p .function) (calleeAt s p .name) then
-    argsCode d s end first site (marksFrom s (p + 12) n) then instr ParamEnd 0 then act (mark exit))
+    emitInvoke site (calleeAt s p .flags) exit (calleeAt s p .line) (flagsOf (exprsOf (listOf (exprsFrom d s end (argsAt s p)))) 1) (calleeAt s p .function) (calleeAt s p .name) then
+    argsCode d s end first site (marksFrom s (p + 12) n) then instr site ParamEnd 0 then act (mark exit))
 unfolding codeOf listOf emitCall calleeAt
 call-parts d s end p site n first e f k = rw (f, e, k .reads)
 
@@ -187,7 +187,7 @@ pub plain-arg : (site short : ℕ) (p : Code) → short ≡ 0 → lowerArg site 
 unfolding lowerArg
 plain-arg site short p e = rw e
 
-pub short-arg : (site short : ℕ) (p : Code) → (short ≡ 0 → ⊥) → lowerArg site short p ≡ (label site λ skip. jump Skip skip then p then act (mark skip))
+pub short-arg : (site short : ℕ) (p : Code) → (short ≡ 0 → ⊥) → lowerArg site short p ≡ (label site λ skip. jump site Skip skip then p then act (mark skip))
 unfolding lowerArg
 short-arg site zero p h = absurd (h refl)
 short-arg site (suc n) p h = refl

@@ -252,7 +252,7 @@ default-any there d s stop end x h = let k = x (λ z. absurd (omega (arith, z)))
 abbrev insideFor : (there index d : ℕ) (s : List ℕ) (end at stop site first : ℕ) → BlockSpan → Code
 insideFor there index d s end at stop site first sc =
     codeOf (λ cs. cond (midDefault (defaultOf there d s stop end) index (casesOf cs)) (midCode cs site first index (defaultOf there d s stop end) sc)
-    (lowerCases (casesOf cs) site first none sc then lowerLast (defaultOf there d s stop end) sc)) (armsFrom d s end at)
+    (lowerCases (casesOf cs) site first none sc then lowerLast (defaultOf there d s stop end) site sc)) (armsFrom d s end at)
 
 module _ (d : ℕ) (s : List ℕ) (end at stop site first index n : ℕ) (sc : BlockSpan) (acc : Accepted (armsFrom d s end at)) (count : n ≡ length (listOf (armsFrom d s end at))) where
   cases-long : n ≡ lengthCases (casesOf (acc .0))
@@ -260,14 +260,14 @@ module _ (d : ℕ) (s : List ℕ) (end at stop site first index n : ℕ) (sc : B
 
   pub mid-did : (body : ℕ) {w w₁ w₂ w₃ w₄ r : Walk} {o m m₁ o₂ m₂ o₃ o₄ o₅ m₅ : List ℕ} → body ≡ labelsOf w → Labelled (many site (n + 1) done) w m w₁ m₁ →
       Did (codeOf (λ cs. lowerMatchers (casesOf cs) site first body) (armsFrom d s end at)) w₁ o m₁ w₂ o₂ m₂ →
-      Emitted (instr SwitchDefault 0) w₂ o₂ w₃ o₃ → Emitted (jump Jump (body + n)) w₃ o₃ w₄ o₄ →
+      Emitted (instr site SwitchDefault 0) w₂ o₂ w₃ o₃ → Emitted (jump site Jump (body + n)) w₃ o₃ w₄ o₄ →
       Did (codeOf (λ cs. lowerBodies (casesOf cs) index body (body + n) (lowerDefault (defaultOf 1 d s stop end) sc) sc) (armsFrom d s end at)) w₄ o₄ m₂ r o₅ m₅ →
       Did (codeOf (λ cs. midCode cs site first index (defaultOf 1 d s stop end) sc) (armsFrom d s end at)) w o m r o₅ m₅
   unfolding midCode
   mid-did body e mk h p j b =
       let cs = acc .0 in
       let D = defaultOf 1 d s stop end in
-      let f : ℕ → Code = λ c. lowerMatchers (casesOf cs) site first c then instr SwitchDefault 0 then jump Jump (c + n) then lowerBodies (casesOf cs) index c (c + n) (lowerDefault D sc) sc in
+      let f : ℕ → Code = λ c. lowerMatchers (casesOf cs) site first c then instr site SwitchDefault 0 then jump site Jump (c + n) then lowerBodies (casesOf cs) index c (c + n) (lowerDefault D sc) sc in
       let z : codeOf (λ cs. midCode cs site first index D sc) (armsFrom d s end at) ≡ label site (λ c. many site n (f c)) =
       code-is (λ cs. midCode cs site first index D sc) (armsFrom d s end at) cs (acc .1) (acc .2) ∙ rw (midCode, ← cases-long) in
       recode z (goes-last (fresh-many site n f body e mk)
@@ -297,7 +297,7 @@ module _ (d : ℕ) (s : List ℕ) (end at stop site first index n : ℕ) (sc : B
     mid-test = rw (midDefault, present-is, ← cases-long)
 
     abbrev insideOf : Bool → Code
-    insideOf b = cond b (midCode (acc .0) site first index (defaultOf there d s stop end) sc) (lowerCases (casesOf (acc .0)) site first none sc then lowerLast (defaultOf there d s stop end) sc)
+    insideOf b = cond b (midCode (acc .0) site first index (defaultOf there d s stop end) sc) (lowerCases (casesOf (acc .0)) site first none sc then lowerLast (defaultOf there d s stop end) site sc)
 
     inside-is : (b : Bool) → b ≡ (not (eqb there 0) && ltb index n) → insideFor there index d s end at stop site first sc ≡ insideOf b
     inside-is b e = code-is _ (armsFrom d s end at) (acc .0) (acc .1) (acc .2) ∙ ap insideOf (mid-test ∙ sym e)
@@ -315,14 +315,14 @@ module _ (d : ℕ) (s : List ℕ) (end at stop site first index n : ℕ) (sc : B
 
       pub inside-none : there ≡ 0 → Did (insideFor there index d s end at stop site first sc) w o m v o₁ m₁
       unfolding lowerStmt
-      inside-none z = recode (inside-is b e ∙ ap insideOf t ∙ ap (λ D. lowerCases (casesOf (acc .0)) site first none sc then lowerLast D sc) (none-is z)) (both the-cases nothing)
+      inside-none z = recode (inside-is b e ∙ ap insideOf t ∙ ap (λ D. lowerCases (casesOf (acc .0)) site first none sc then lowerLast D site sc) (none-is z)) (both the-cases nothing)
 
-      pub inside-last : {u r : Walk} {o₂ o₃ m₃ : List ℕ} → (there ≡ 0 → ⊥) → Emitted (instr SwitchDefault 0) v o₁ u o₂ → Did (fillCode Statement d s stop (end + 4) sc) u o₂ m₁ r o₃ m₃ →
+      pub inside-last : {u r : Walk} {o₂ o₃ m₃ : List ℕ} → (there ≡ 0 → ⊥) → Emitted (instr site SwitchDefault 0) v o₁ u o₂ → Did (fillCode Statement d s stop (end + 4) sc) u o₂ m₁ r o₃ m₃ →
           Did (insideFor there index d s end at stop site first sc) w o m r o₃ m₃
       unfolding lowerStmt
       inside-last z p y =
           let k = default-some there d s stop end z (here z) in
-          recode (inside-is b e ∙ ap insideOf t ∙ ap (λ D. lowerCases (casesOf (acc .0)) site first none sc then lowerLast D sc) (some-is z))
+          recode (inside-is b e ∙ ap insideOf t ∙ ap (λ D. lowerCases (casesOf (acc .0)) site first none sc then lowerLast D site sc) (some-is z))
           (both the-cases (both (emitted p) (recode (sym (block-code d s stop (end + 4) sc (k .1 .0) stop (k .1 .1))) y)))
 
 -- the places and fields that the code computes

@@ -31,24 +31,24 @@ pub block-code : (d : ℕ) (s : List ℕ) (end at : ℕ) (span : BlockSpan) (xs 
 unfolding codeOf
 block-code d s end at span xs n r = ap {B = Code} (codeOf (λ xs. lowerBlock (blockOf xs) span)) r
 
--- what an array of n elements emits
-pub arrayCode : (n local type : ℕ) → Code → Code
-arrayCode zero local type elements = done
-arrayCode (suc n) local type elements = emits (plain ArrayResize 0 type ∷ plain Local 0 local ∷ plain U64Const 0 (suc n) ∷ []) then elements
+-- what an array of n elements at `at` emits
+pub arrayCode : (at n local type : ℕ) → Code → Code
+arrayCode at zero local type elements = done
+arrayCode at (suc n) local type elements = emits (plain at ArrayResize 0 type ∷ plain at Local 0 local ∷ plain at U64Const 0 (suc n) ∷ []) then elements
 
-array-is : (xs : List Expr) (local type : ℕ) → lowerArray (exprsOf xs) local type ≡ arrayCode (length xs) local type (lowerElements (exprsOf xs) local type 0)
+array-is : (xs : List Expr) (at local type : ℕ) → lowerArray (exprsOf xs) at local type ≡ arrayCode at (length xs) local type (lowerElements (exprsOf xs) at local type 0)
 unfolding lowerArray arrayCode exprsOf
-array-is [] local type = refl
-array-is (x ∷ xs) local type = rw (length-exprs xs)
+array-is [] at local type = refl
+array-is (x ∷ xs) at local type = rw (length-exprs xs)
 
-pub no-array : (n local type : ℕ) (p : Code) → n ≡ 0 → arrayCode n local type p ≡ done
+pub no-array : (at n local type : ℕ) (p : Code) → n ≡ 0 → arrayCode at n local type p ≡ done
 unfolding arrayCode
-no-array n local type p e = rw e
+no-array at n local type p e = rw e
 
-pub an-array : (n local type : ℕ) (p : Code) → 0 < n → arrayCode n local type p ≡ (act (emit (plain ArrayResize 0 type)) then act (emit (plain Local 0 local)) then act (emit (plain U64Const 0 n)) then done) then p
+pub an-array : (at n local type : ℕ) (p : Code) → 0 < n → arrayCode at n local type p ≡ (act (emit (plain at ArrayResize 0 type)) then act (emit (plain at Local 0 local)) then act (emit (plain at U64Const 0 n)) then done) then p
 unfolding arrayCode emits
-an-array zero local type p h = absurd (omega arith)
-an-array (suc n) local type p h = refl
+an-array at zero local type p h = absurd (omega arith)
+an-array at (suc n) local type p h = refl
 
 run-back : (d : ℕ) (s : List ℕ) (stop at : ℕ) (body : List Stmt) → RunAt s stop (parseStmt d s) at body stop → run s stop (parseStmt d s) at ≡ ok body stop
 unfolding run span unsigned room _>>=_ bind
@@ -63,24 +63,24 @@ unfolding blockIf give _>>=_ bind
 default-is d s stop at m x (none h) = ap (ok absent) h
 default-is d s stop at m x (some body k) = rw (run-back d s stop at body k)
 
-nothing-code : (d : ℕ) (s : List ℕ) (at stop m : ℕ) (t : Stmt) (span : BlockSpan) → m ≡ 0 → ReturnAt d s at stop m t → lowerStmt t span ≡ lowerReturnNothing
+nothing-code : (d : ℕ) (s : List ℕ) (at stop m : ℕ) (t : Stmt) (span : BlockSpan) → m ≡ 0 → ReturnAt d s at stop m t → lowerStmt t span ≡ lowerReturnNothing at
 unfolding lowerStmt
 nothing-code d s at stop m t span e (nothing h) = refl
 nothing-code d s at stop m t span e (value x k) = absurd (omega (arith, e))
 
-value-code : (d : ℕ) (s : List ℕ) (at stop m : ℕ) (t : Stmt) (span : BlockSpan) → (m ≡ 0 → ⊥) → ReturnAt d s at stop m t → Here d s stop (at + 6) stop × (lowerStmt t span ≡ lowerReturn (span .returns) (exprCode d s stop (at + 6)))
+value-code : (d : ℕ) (s : List ℕ) (at stop m : ℕ) (t : Stmt) (span : BlockSpan) → (m ≡ 0 → ⊥) → ReturnAt d s at stop m t → Here d s stop (at + 6) stop × (lowerStmt t span ≡ lowerReturn at (span .returns) (exprCode d s stop (at + 6)))
 unfolding lowerStmt
 value-code d s at stop m t span h (nothing e) = absurd (h refl)
-value-code d s at stop m t span h (value x k) = (here k, ap (lowerReturn (span .returns)) (child k))
+value-code d s at stop m t span h (value x k) = (here k, ap (lowerReturn at (span .returns)) (child k))
 
-pub return-after : (r : ℕ) (p : Code) → r ≡ 0 → lowerReturn r p ≡ p then lowerReturnNothing
+pub return-after : (at r : ℕ) (p : Code) → r ≡ 0 → lowerReturn at r p ≡ p then lowerReturnNothing at
 unfolding lowerReturn lowerReturnNothing
-return-after r p e = rw e
+return-after at r p e = rw e
 
-pub return-before : (r : ℕ) (p : Code) → (r ≡ 0 → ⊥) → lowerReturn r p ≡ instr Return 0 then p
+pub return-before : (at r : ℕ) (p : Code) → (r ≡ 0 → ⊥) → lowerReturn at r p ≡ instr at Return 0 then p
 unfolding lowerReturn
-return-before zero p h = absurd (h refl)
-return-before (suc r) p h = refl
+return-before at zero p h = absurd (h refl)
+return-before at (suc r) p h = refl
 
 module _ (depth : ℕ) (s : List ℕ) (end at : ℕ) (span : BlockSpan) (acc : Accepted (parseStmt depth s end at)) where
   whole : stmtCode depth s end at span ≡ lowerStmt (acc .0) span
@@ -122,8 +122,8 @@ module _ (depth : ℕ) (s : List ℕ) (end at : ℕ) (span : BlockSpan) (acc : A
       pub block : Accepted (filling (parseStmt (depth - 1) s) stop (second + 4))
       pub code : stmtCode depth s end at span ≡
           (label at λ start. label at λ finish.
-          act (mark start) then jump JumpIfFalse finish then exprCode (depth - 1) s stop (at + 5) then
-          fillCode Statement (depth - 1) s stop (second + 4) (inLoop start finish span) then jump Jump start then act (mark finish))
+          act (mark start) then jump at JumpIfFalse finish then exprCode (depth - 1) s stop (at + 5) then
+          fillCode Statement (depth - 1) s stop (second + 4) (inLoop start finish span) then jump at Jump start then act (mark finish))
 
     pub while-here : (second : ℕ) → second ≡ endOf s (at + 5) → getD s (at + 4) 0 ≡ 3 → WhileHere second
     unfolding lowerStmt codeOf
@@ -170,7 +170,7 @@ module _ (depth : ℕ) (s : List ℕ) (end at : ℕ) (span : BlockSpan) (acc : A
       pub one : Here (depth - 1) s stop (at + 9) second
       pub cased : Cased (getD s (second + 4) 0) (depth - 1) s stop second
       pub code : stmtCode depth s end at span ≡
-          (label at λ finish. label at λ first. emitSwitch type first then exprCode (depth - 1) s stop (at + 9) then
+          (label at λ finish. label at λ first. emitSwitch at type first then exprCode (depth - 1) s stop (at + 9) then
           insideCode (depth - 1) s stop second at first (inSwitch finish span) then act (mark finish))
 
     pub switch-here : (type second : ℕ) → type ≡ number 4 s (at + 5) → second ≡ endOf s (at + 9) → getD s (at + 4) 0 ≡ 5 → SwitchHere type second
@@ -193,14 +193,14 @@ module _ (depth : ℕ) (s : List ℕ) (end at : ℕ) (span : BlockSpan) (acc : A
     array-run kind = let k = init-array-at depth s end at (acc .0) stop reads kind in run-at (depth - 1) (at + 13) (at + 17) (omega arith) (k .run)
 
     pub array-here : (n local type : ℕ) → n ≡ length (listOf (exprsFrom (depth - 1) s stop (at + 17))) → local ≡ number 4 s (at + 5) → type ≡ number 4 s (at + 9) → getD s (at + 4) 0 ≡ 6 →
-        stmtCode depth s end at span ≡ arrayCode n local type (codeOf (λ xs. lowerElements (exprsOf xs) local type 0) (exprsFrom (depth - 1) s stop (at + 17)))
+        stmtCode depth s end at span ≡ arrayCode at n local type (codeOf (λ xs. lowerElements (exprsOf xs) at local type 0) (exprsFrom (depth - 1) s stop (at + 17)))
     unfolding lowerStmt codeOf listOf
     array-here n local type e f g kind =
         let k = init-array-at depth s end at (acc .0) stop reads kind in
         let r : exprsFrom (depth - 1) s stop (at + 17) ≡ ok (k .elements) stop = let z : at + 13 + 4 ≡ at + 17 = omega arith in rw z at (k .run .reads) in
-        rw (e, f, g, r) (whole ∙ ap (λ t. lowerStmt t span) (k .tree) ∙ array-is (k .elements) (number 4 s (at + 5)) (number 4 s (at + 9)))
+        rw (e, f, g, r) (whole ∙ ap (λ t. lowerStmt t span) (k .tree) ∙ array-is (k .elements) at (number 4 s (at + 5)) (number 4 s (at + 9)))
 
-    pub init-here : getD s (at + 4) 0 ≡ 7 → (at + 14 ≤ stop) × (getD s (at + 9) 0 < 23) × (stmtCode depth s end at span ≡ emits (defaultInstrs (number 4 s (at + 5)) (getD s (at + 9) 0) (number 4 s (at + 10))))
+    pub init-here : getD s (at + 4) 0 ≡ 7 → (at + 14 ≤ stop) × (getD s (at + 9) 0 < 23) × (stmtCode depth s end at span ≡ emits (defaultInstrs at (number 4 s (at + 5)) (getD s (at + 9) 0) (number 4 s (at + 10))))
     unfolding lowerStmt
     init-here kind = let k = init-default-at depth s end at (acc .0) stop reads kind in (omega (arith, k .ends), k .byte .small, whole ∙ ap (λ t. lowerStmt t span) (k .tree))
 
@@ -208,10 +208,10 @@ module _ (depth : ℕ) (s : List ℕ) (end at : ℕ) (span : BlockSpan) (acc : A
     pub return-fits : getD s (at + 4) 0 ≡ 10 → at + 6 ≤ stop
     return-fits kind = let k = returned-at depth s end at (acc .0) stop reads kind in omega (arith, k .0 .fits)
 
-    pub return-nothing : getD s (at + 4) 0 ≡ 10 → getD s (at + 5) 0 ≡ 0 → stmtCode depth s end at span ≡ lowerReturnNothing
+    pub return-nothing : getD s (at + 4) 0 ≡ 10 → getD s (at + 5) 0 ≡ 0 → stmtCode depth s end at span ≡ lowerReturnNothing at
     return-nothing kind z = whole ∙ nothing-code (depth - 1) s at stop (getD s (at + 5) 0) (acc .0) span z (returned-at depth s end at (acc .0) stop reads kind .1)
 
-    pub return-value : getD s (at + 4) 0 ≡ 10 → (getD s (at + 5) 0 ≡ 0 → ⊥) → Here (depth - 1) s stop (at + 6) stop × (stmtCode depth s end at span ≡ lowerReturn (span .returns) (exprCode (depth - 1) s stop (at + 6)))
+    pub return-value : getD s (at + 4) 0 ≡ 10 → (getD s (at + 5) 0 ≡ 0 → ⊥) → Here (depth - 1) s stop (at + 6) stop × (stmtCode depth s end at span ≡ lowerReturn at (span .returns) (exprCode (depth - 1) s stop (at + 6)))
     return-value kind z = let k = value-code (depth - 1) s at stop (getD s (at + 5) 0) (acc .0) span z (returned-at depth s end at (acc .0) stop reads kind .1) in (k .0, whole ∙ k .1)
 
 arm-code : (g : Code → Code → Code) (span : BlockSpan) (c : Expr) (b : Block) (xs : List Stmt) (p q : Code) → lowerExpr c ≡ p → b ≡ blockOf xs → q ≡ lowerBlock (blockOf xs) span → g (lowerExpr c) (lowerBlock b span) ≡ g p q

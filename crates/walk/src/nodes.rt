@@ -167,15 +167,15 @@ fn field(
     let name = u32_at(s, at + 6);
     let first = at + 10;
     if form == 0 {
-        let w1 = plain(w, tag::STRUCT_FIELD, 0, name, out);
+        let w1 = plain(w, at, tag::STRUCT_FIELD, 0, name, out);
         return node(s, first, stop, below, span, w1, out, marks);
     }
     let exit = labels_of(w);
     let w1 = new_label(w, at, marks);
-    let w2 = jump(w1, tag::CONTEXT, exit, out);
-    let w3 = weak_to_ref(w2, form - 1, out);
+    let w2 = jump(w1, at, tag::CONTEXT, exit, out);
+    let w3 = weak_to_ref(w2, at, form - 1, out);
     let w4 = node(s, first, stop, below, span, w3, out, marks);
-    let w5 = plain(w4, tag::OBJECT_FIELD, 0, name, out);
+    let w5 = plain(w4, at, tag::OBJECT_FIELD, 0, name, out);
     mark_label(w5, exit, marks)
 }
 
@@ -204,7 +204,7 @@ fn ternary(
     let w1 = new_label(w, at, marks);
     let exit = labels_of(w1);
     let w2 = new_label(w1, at, marks);
-    let w3 = jumps(w2, tag::CONDITIONAL, other, exit, out);
+    let w3 = jumps(w2, at, tag::CONDITIONAL, other, exit, out);
     let w4 = node(s, first, stop, below, span, w3, out, marks);
     let w5 = node(s, second, stop, below, span, w4, out, marks);
     let w6 = mark_label(w5, other, marks);
@@ -235,8 +235,8 @@ fn instance(
     let weak = wide(s[at + 5]);
     let exit = labels_of(w);
     let w1 = new_label(w, at, marks);
-    let w2 = jump(w1, tag::CONTEXT, exit, out);
-    let w3 = weak_to_ref(w2, weak, out);
+    let w2 = jump(w1, at, tag::CONTEXT, exit, out);
+    let w3 = weak_to_ref(w2, at, weak, out);
     let w4 = node(s, first, stop, below, span, w3, out, marks);
     let w5 = emit_call(s, second, stop, below, span, at, w4, out, marks);
     mark_label(w5, exit, marks)
@@ -266,15 +266,15 @@ fn closure(
     let line = u16_at(s, second + 4);
     let context = labels_of(w);
     let w1 = new_label(w, at, marks);
-    let w2 = jump(w1, tag::CONTEXT, context, out);
+    let w2 = jump(w1, at, tag::CONTEXT, context, out);
     let w3 = node(s, first, stop, below, span, w2, out, marks);
     let w4 = mark_label(w3, context, marks);
     let exit = labels_of(w4);
     let w5 = new_label(w4, at, marks);
-    let w6 = invoke(w5, tag::INVOKE_VIRTUAL, exit, line, 0, name, out);
+    let w6 = invoke(w5, at, tag::INVOKE_VIRTUAL, exit, line, 0, name, out);
     let args = second + 10;
     let w7 = exprs(s, args, stop, below, span, w6, out, marks);
-    let w8 = plain(w7, tag::PARAM_END, 0, 0, out);
+    let w8 = plain(w7, at, tag::PARAM_END, 0, 0, out);
     mark_label(w8, exit, marks)
 }
 
@@ -299,9 +299,9 @@ fn emit_call(
     let exit = labels_of(w);
     let w1 = new_label(w, site, marks);
     let w2 = check_flags(s, first, end, depth, w1);
-    let w3 = emit_invoke(s, at, end, depth, exit, w2, out);
+    let w3 = emit_invoke(s, at, end, depth, site, exit, w2, out);
     let w4 = args(s, first, end, depth, span, site, at + 12, n, w3, out, marks);
-    let w5 = plain(w4, tag::PARAM_END, 0, 0, out);
+    let w5 = plain(w4, site, tag::PARAM_END, 0, 0, out);
     mark_label(w5, exit, marks)
 }
 
@@ -334,7 +334,7 @@ fn args(
         p += 1;
         left -= 1;
     }
-    nops(v, left, out)
+    nops(v, site, left, out)
 }
 
 // An argument, behind a Skip where its parameter is short-circuit.
@@ -359,7 +359,7 @@ fn arg(
     }
     let skip = labels_of(w);
     let w1 = new_label(w, site, marks);
-    let w2 = jump(w1, tag::SKIP, skip, out);
+    let w2 = jump(w1, site, tag::SKIP, skip, out);
     let w3 = node(s, at, end, depth, span, w2, out, marks);
     mark_label(w3, skip, marks)
 }
@@ -453,11 +453,11 @@ fn repeat(
     let finish = labels_of(w1);
     let w2 = new_label(w1, at, marks);
     let w3 = mark_label(w2, start, marks);
-    let w4 = jump(w3, tag::JUMP_IF_FALSE, finish, out);
+    let w4 = jump(w3, at, tag::JUMP_IF_FALSE, finish, out);
     let w5 = node(s, first, stop, below, span, w4, out, marks);
     let inner = in_loop(start, finish, span);
     let w6 = stmts(s, second + 4, stop, below, inner, w5, out, marks);
-    let w7 = jump(w6, tag::JUMP, start, out);
+    let w7 = jump(w6, at, tag::JUMP, start, out);
     mark_label(w7, finish, marks)
 }
 
@@ -512,7 +512,7 @@ fn arms(
     let mut v = w;
     let mut next = first;
     while i < end {
-        v = arm(s, i, end, depth, span, next, exit, v, out, marks);
+        v = arm(s, i, end, depth, span, site, next, exit, v, out, marks);
         next = labels_of(v);
         v = new_label(v, site, marks);
         let second = end_of(s, i);
@@ -521,13 +521,14 @@ fn arms(
     v
 }
 
-// A branch.
+// A branch of the node at `site`.
 fn arm(
     s: &[u8],
     at: usize,
     end: usize,
     depth: usize,
     span: BlockSpan,
+    site: usize,
     next: usize,
     exit: usize,
     w: Walk,
@@ -536,14 +537,14 @@ fn arm(
 ) -> Walk
     requires { ⌜ Accepted (arm (now s) (parseExpr depth (now s)) (parseStmt depth (now s)) end at) ⌝ }
     requires { ⌜ end ≤ length (now s) ⌝ }
-    ensures { λ r. ⌜ Did (armCode (λ c b. jump JumpIfFalse next then lowerExpr c then lowerBlock b (spanOf span) then jump Jump exit then act (mark next)) depth (now (s .entry)) end at) w (now (out .entry)) (now (marks .entry)) r (now (out .exit)) (now (marks .exit)) ⌝ }
+    ensures { λ r. ⌜ Did (armCode (λ c b. jump site JumpIfFalse next then lowerExpr c then lowerBlock b (spanOf span) then jump site Jump exit then act (mark next)) depth (now (s .entry)) end at) w (now (out .entry)) (now (marks .entry)) r (now (out .exit)) (now (marks .exit)) ⌝ }
 {
     let second = end_of(s, at);
     let third = end_of(s, second);
-    let w1 = jump(w, tag::JUMP_IF_FALSE, next, out);
+    let w1 = jump(w, site, tag::JUMP_IF_FALSE, next, out);
     let w2 = node(s, at, end, depth, span, w1, out, marks);
     let w3 = stmts(s, second + 4, third, depth, span, w2, out, marks);
-    let w4 = jump(w3, tag::JUMP, exit, out);
+    let w4 = jump(w3, site, tag::JUMP, exit, out);
     mark_label(w4, next, marks)
 }
 
@@ -594,7 +595,7 @@ fn switch(
     let w1 = new_label(w, at, marks);
     let label = labels_of(w1);
     let w2 = new_label(w1, at, marks);
-    let w3 = emit_switch(w2, typ, label, out);
+    let w3 = emit_switch(w2, at, typ, label, out);
     let w4 = node(s, first, stop, below, span, w3, out, marks);
     let inner = in_switch(finish, span);
     let w5 = inside(s, second, stop, below, inner, at, label, w4, out, marks);
@@ -629,7 +630,7 @@ fn inside(
     if there == 0 {
         return w1;
     }
-    let w2 = plain(w1, tag::SWITCH_DEFAULT, 0, 0, out);
+    let w2 = plain(w1, site, tag::SWITCH_DEFAULT, 0, 0, out);
     stmts(s, list + 4, end, depth, span, w2, out, marks)
 }
 
@@ -663,20 +664,34 @@ fn cases(
         v = mark_label(v, next, marks);
         next = labels_of(v);
         v = new_label(v, site, marks);
-        v = case(s, i, end, depth, span, next, body, ends, v, out, marks);
+        v = case(
+            s,
+            i,
+            end,
+            depth,
+            span,
+            site,
+            next,
+            body,
+            ends,
+            v,
+            out,
+            marks,
+        );
         group = group_after(ends, body);
         i = third;
     }
     mark_label(v, next, marks)
 }
 
-// A case; its block, where it ends its group.
+// A case of the node at `site`; its block, where it ends its group.
 fn case(
     s: &[u8],
     at: usize,
     end: usize,
     depth: usize,
     span: BlockSpan,
+    site: usize,
     next: usize,
     body: usize,
     ends: bool,
@@ -686,11 +701,11 @@ fn case(
 ) -> Walk
     requires { ⌜ Accepted (arm (now s) (parseExpr depth (now s)) (parseStmt depth (now s)) end at) ⌝ }
     requires { ⌜ end ≤ length (now s) ⌝ }
-    ensures { λ r. ⌜ Did (armCode (λ c b. jumps SwitchLabel next body then lowerExpr c then ending ends body (lowerBlock b (spanOf span))) depth (now (s .entry)) end at) w (now (out .entry)) (now (marks .entry)) r (now (out .exit)) (now (marks .exit)) ⌝ }
+    ensures { λ r. ⌜ Did (armCode (λ c b. jumps site SwitchLabel next body then lowerExpr c then ending ends body (lowerBlock b (spanOf span))) depth (now (s .entry)) end at) w (now (out .entry)) (now (marks .entry)) r (now (out .exit)) (now (marks .exit)) ⌝ }
 {
     let second = end_of(s, at);
     let third = end_of(s, second);
-    let w1 = jumps(w, tag::SWITCH_LABEL, next, body, out);
+    let w1 = jumps(w, site, tag::SWITCH_LABEL, next, body, out);
     let w2 = node(s, at, end, depth, span, w1, out, marks);
     if ends {
         let w3 = mark_label(w2, body, marks);
@@ -723,8 +738,8 @@ fn mid(
     let body = labels_of(w);
     let w1 = new_labels(w, site, n + 1, marks);
     let w2 = matchers(s, one, list, depth, span, site, first, body, w1, out, marks);
-    let w3 = plain(w2, tag::SWITCH_DEFAULT, 0, 0, out);
-    let w4 = jump(w3, tag::JUMP, body + n, out);
+    let w3 = plain(w2, site, tag::SWITCH_DEFAULT, 0, 0, out);
+    let w4 = jump(w3, site, tag::JUMP, body + n, out);
     bodies(
         s,
         one,
@@ -768,7 +783,7 @@ fn matchers(
         v = mark_label(v, next, marks);
         next = labels_of(v);
         v = new_label(v, site, marks);
-        v = jumps(v, tag::SWITCH_LABEL, next, body, out);
+        v = jumps(v, site, tag::SWITCH_LABEL, next, body, out);
         v = node(s, i, end, depth, span, v, out, marks);
         body += 1;
         i = end_of(s, second);
@@ -836,21 +851,22 @@ fn array(
     let typ = u32_at(s, at + 9);
     if first < stop {
         let n = count(s, first, stop, below);
-        let w1 = plain(w, tag::ARRAY_RESIZE, 0, typ, out);
-        let w2 = plain(w1, tag::LOCAL, 0, local, out);
-        let w3 = plain(w2, tag::U64_CONST, 0, n, out);
-        return elements(s, first, stop, below, span, local, typ, w3, out, marks);
+        let w1 = plain(w, at, tag::ARRAY_RESIZE, 0, typ, out);
+        let w2 = plain(w1, at, tag::LOCAL, 0, local, out);
+        let w3 = plain(w2, at, tag::U64_CONST, 0, n, out);
+        return elements(s, first, stop, below, span, at, local, typ, w3, out, marks);
     }
     w
 }
 
-// The elements of an array.
+// The elements of the array at `site`.
 fn elements(
     s: &[u8],
     at: usize,
     end: usize,
     depth: usize,
     span: BlockSpan,
+    site: usize,
     local: usize,
     typ: usize,
     w: Walk,
@@ -859,13 +875,13 @@ fn elements(
 ) -> Walk
     requires { ⌜ Accepted (exprsFrom depth (now s) end at) ⌝ }
     requires { ⌜ (at ≤ end) × (end ≤ length (now s)) ⌝ }
-    ensures { λ r. ⌜ Did (codeOf (λ xs. lowerElements (exprsOf xs) local typ 0) (exprsFrom depth (now (s .entry)) end at)) w (now (out .entry)) (now (marks .entry)) r (now (out .exit)) (now (marks .exit)) ⌝ }
+    ensures { λ r. ⌜ Did (codeOf (λ xs. lowerElements (exprsOf xs) site local typ 0) (exprsFrom depth (now (s .entry)) end at)) w (now (out .entry)) (now (marks .entry)) r (now (out .exit)) (now (marks .exit)) ⌝ }
 {
     let mut i = at;
     let mut v = w;
     let mut k = 0;
     while i < end {
-        v = element(v, local, typ, k, out);
+        v = element(v, site, local, typ, k, out);
         v = node(s, i, end, depth, span, v, out, marks);
         i = end_of(s, i);
         k += 1;
@@ -892,12 +908,12 @@ fn ret(
     let stop = end_of(s, at);
     let below = depth - 1;
     if s[at + 5] == 0 {
-        return returned(w, out);
+        return returned(w, at, out);
     }
     if span.returns == 0 {
         let w1 = node(s, at + 6, stop, below, span, w, out, marks);
-        return returned(w1, out);
+        return returned(w1, at, out);
     }
-    let w2 = plain(w, tag::RETURN, 0, 0, out);
+    let w2 = plain(w, at, tag::RETURN, 0, 0, out);
     node(s, at + 6, stop, below, span, w2, out, marks)
 }

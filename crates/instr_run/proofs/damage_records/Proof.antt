@@ -10,7 +10,7 @@ abbrev Inv-loop : tie.InvT-loop
 Inv-loop s₀ end place₀ t5 t6 s place = length s ≡ length s₀
 
 abbrev μ-loop : tie.MeasureT-loop
-μ-loop s₀ end place₀ t5 t6 s place = 18 - place
+μ-loop s₀ end place₀ t5 t6 s place = 22 - place
 
 pub damage-records-spec : {M : Type 1} → statement M
 damage-records-spec = tie.close (tie.spec Inv-loop μ-loop (λ c. search needs) (λ c. search needs) (λ c κs. search needs)

@@ -7,7 +7,7 @@ use Rattle.instr_run.proofs.fill.Statement.{statement}
 use Rattle.instr_run.proofs.fill.Tie as tie
 
 abbrev Inv-loop : tie.InvT-loop
-Inv-loop out₀ count₀ at₀ t₀ out count at t = (t ≤ 256) × (count ≤ t) × (at ≤ 5 + 18 * t) × (length out ≡ length out₀)
+Inv-loop out₀ count₀ at₀ t₀ out count at t = (t ≤ 256) × (count ≤ t) × (at ≤ 5 + 22 * t) × (length out ≡ length out₀)
 
 abbrev μ-loop : tie.MeasureT-loop
 μ-loop out₀ count₀ at₀ t₀ out count at t = 256 - t

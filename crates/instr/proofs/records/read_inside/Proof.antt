@@ -1,4 +1,4 @@
--- Seven fields, each a number at its place.
+-- Eight fields, each a number at its place.
 use Prim.Native.Nat.{_+_}
 use mathlib.Core.Path.{refl}
 use native.Mathlib.Nat.{add-zero}
@@ -11,11 +11,11 @@ use Rattle.instr.proofs.records.read_inside.Tie as tie
 returns : tie.Need-returns
 unfolding recordAt
 returns c =
-    let a = c .before .before .before .before .before .before .before .before .args in
+    let a = c .before .before .before .before .before .before .before .before .before .args in
     cc (add-zero (a .at), one-byte (a .s .now) (a .at) refl, one-byte (a .s .now) (a .at + 1) refl)
 
 pub read-inside-spec : {M : Type 1} → statement M
 read-inside-spec = tie.close (tie.spec (λ c. search needs) (λ c. search needs) (λ c. search needs) (λ c. search needs)
     (λ c. search needs) (λ c κs. search needs) (λ c. search needs) (λ c κs. search needs) (λ c. search needs)
     (λ c κs. search needs) (λ c. search needs) (λ c κs. search needs) (λ c. search needs) (λ c κs. search needs)
-    returns)
+    (λ c. search needs) (λ c κs. search needs) (λ c. search needs) returns)

@@ -57,7 +57,7 @@ invoke-requires : tie.Need-invoke-requires
 invoke-requires c κs = search needs
 
 returns : tie.Need-returns
-returns c = invoke-virtual _ _ _ _ _ (c .before .before .before .before .before .before .before .before .flags-of .ensures ∙ ap (λ x. flagsOf (exprsOf (listOf (exprsFrom (c .before .before .before .before .before .before .before .before .before .before .before .before .before .args .depth) (c .before .before .before .before .before .before .before .before .before .before .before .before .before .args .s .now) (c .before .before .before .before .before .before .before .before .before .before .before .before .before .args .end) (c .before .before .before .before .before .before .before .before .before .before .before .before .before .args .at + 16 + x)))) 1 % 2 ^ 16) (c .before .before .before .before .before .before .before .before .before .wide .ensures .0)) (c .before .before .before .before .before .before .before .u16-at .ensures .0) _ (c .before .before .before .before .before .if1 .taken) (c .before .before .before .before .u32-at .ensures .0) (c .before .before .invoke .ensures)
+returns c = invoke-virtual _ _ _ _ _ _ (c .before .before .before .before .before .before .before .before .flags-of .ensures ∙ ap (λ x. flagsOf (exprsOf (listOf (exprsFrom (c .before .before .before .before .before .before .before .before .before .before .before .before .before .args .depth) (c .before .before .before .before .before .before .before .before .before .before .before .before .before .args .s .now) (c .before .before .before .before .before .before .before .before .before .before .before .before .before .args .end) (c .before .before .before .before .before .before .before .before .before .before .before .before .before .args .at + 16 + x)))) 1 % 2 ^ 16) (c .before .before .before .before .before .before .before .before .before .wide .ensures .0)) (c .before .before .before .before .before .before .before .u16-at .ensures .0) _ (c .before .before .before .before .before .if1 .taken) (c .before .before .before .before .u32-at .ensures .0) (c .before .before .invoke .ensures)
 
 u32-at-requires-2 : tie.Need-u32-at-requires-2
 u32-at-requires-2 c κs = search needs
@@ -66,7 +66,7 @@ invoke-requires-2 : tie.Need-invoke-requires-2
 invoke-requires-2 c κs = search needs
 
 returns-2 : tie.Need-returns-2
-returns-2 c = invoke-static _ _ _ _ _ (c .before .before .before .before .before .before .before .before .flags-of .ensures ∙ ap (λ x. flagsOf (exprsOf (listOf (exprsFrom (c .before .before .before .before .before .before .before .before .before .before .before .before .before .args .depth) (c .before .before .before .before .before .before .before .before .before .before .before .before .before .args .s .now) (c .before .before .before .before .before .before .before .before .before .before .before .before .before .args .end) (c .before .before .before .before .before .before .before .before .before .before .before .before .before .args .at + 16 + x)))) 1 % 2 ^ 16) (c .before .before .before .before .before .before .before .before .before .wide .ensures .0)) (c .before .before .before .before .before .before .before .u16-at .ensures .0) _ (c .before .before .before .before .before .if1 .left) (c .before .before .before .before .u32-at2 .ensures .0) (c .before .before .invoke2 .ensures)
+returns-2 c = invoke-static _ _ _ _ _ _ (c .before .before .before .before .before .before .before .before .flags-of .ensures ∙ ap (λ x. flagsOf (exprsOf (listOf (exprsFrom (c .before .before .before .before .before .before .before .before .before .before .before .before .before .args .depth) (c .before .before .before .before .before .before .before .before .before .before .before .before .before .args .s .now) (c .before .before .before .before .before .before .before .before .before .before .before .before .before .args .end) (c .before .before .before .before .before .before .before .before .before .before .before .before .before .args .at + 16 + x)))) 1 % 2 ^ 16) (c .before .before .before .before .before .before .before .before .before .wide .ensures .0)) (c .before .before .before .before .before .before .before .u16-at .ensures .0) _ (c .before .before .before .before .before .if1 .left) (c .before .before .before .before .u32-at2 .ensures .0) (c .before .before .invoke2 .ensures)
 
 same-length : tie.Need-same-length
 same-length c = search needs

@@ -7,13 +7,13 @@ use Rattle.steps.proofs.calls.nops.Lts as lts
 use Rattle.steps.proofs.records.plain.Reads as plain-reads
 
 abbrev Inv-loop : tie.InvT-loop
-Inv-loop n out₀ v₀ left₀ out v left = NopsRest n v₀ out₀ left v out
+Inv-loop site n out₀ v₀ left₀ out v left = NopsRest site n v₀ out₀ left v out
 
 abbrev μ-loop : tie.MeasureT-loop
-μ-loop n out₀ v₀ left₀ out v left = left
+μ-loop site n out₀ v₀ left₀ out v left = left
 
 loop-holds : tie.Need-loop-holds Inv-loop μ-loop
-loop-holds c = nops-start _ _ _
+loop-holds c = nops-start _ _ _ _
 
 plain-requires : tie.Need-plain-requires Inv-loop μ-loop
 plain-requires c κs = search needs

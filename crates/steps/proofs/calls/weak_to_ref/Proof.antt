@@ -7,13 +7,13 @@ use Rattle.steps.proofs.calls.weak_to_ref.Lts as lts
 use Rattle.steps.proofs.records.plain.Reads as plain-reads
 
 returns : tie.Need-returns
-returns c = weak-none _ _ _ (c .if1 .taken)
+returns c = weak-none _ _ _ _ (c .if1 .taken)
 
 plain-requires : tie.Need-plain-requires
 plain-requires c κs = search needs
 
 returns-2 : tie.Need-returns-2
-returns-2 c = weak-some _ (c .before .before .before .before .if1 .left) (c .before .before .plain .ensures)
+returns-2 c = weak-some _ _ (c .before .before .before .before .if1 .left) (c .before .before .plain .ensures)
 
 same-length : tie.Need-same-length
 same-length c = search needs

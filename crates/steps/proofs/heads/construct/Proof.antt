@@ -21,11 +21,11 @@ count-requires c κs = search needs
 require-requires : tie.Need-require-requires
 require-requires c κs = search needs
 
--- src/heads.rt:41:44
+-- src/heads.rt:41:48
 add-u32-at : tie.Need-add-u32-at
 add-u32-at c = search needs
 
--- src/heads.rt:41:34
+-- src/heads.rt:41:38
 u32-at-requires : tie.Need-u32-at-requires
 u32-at-requires c κs = search needs
 

@@ -56,19 +56,19 @@ typed-requires c κs = search needs
 require-requires : tie.Need-require-requires
 require-requires c κs = search needs
 
--- src/heads.rt:53:9
+-- src/heads.rt:54:9
 intrinsic-tag-requires : tie.Need-intrinsic-tag-requires
 intrinsic-tag-requires c κs = search needs
 
--- src/heads.rt:54:9
+-- src/heads.rt:55:9
 intrinsic-small-requires : tie.Need-intrinsic-small-requires
 intrinsic-small-requires c κs = search needs
 
--- src/heads.rt:55:19
+-- src/heads.rt:56:19
 add-u32-at : tie.Need-add-u32-at
 add-u32-at c = search needs
 
--- src/heads.rt:55:9
+-- src/heads.rt:56:9
 u32-at-requires : tie.Need-u32-at-requires
 u32-at-requires c κs = search needs
 

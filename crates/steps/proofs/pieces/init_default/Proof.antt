@@ -32,7 +32,7 @@ u32-at-requires-2 : tie.Need-u32-at-requires-2
 u32-at-requires-2 c κs = search needs
 
 returns : tie.Need-returns
-returns c = default-read _ _ _ (c .before .before .before .before .u32-at .ensures .0) (c .before .before .wide .ensures .0) (c .before .u32-at2 .ensures .0) (default-variant _ _ _ (c .if1 .taken))
+returns c = default-read _ _ _ _ (c .before .before .before .before .u32-at .ensures .0) (c .before .before .wide .ensures .0) (c .before .u32-at2 .ensures .0) (default-variant _ _ _ _ (c .if1 .taken))
 
 plain-requires : tie.Need-plain-requires
 plain-requires c κs = search needs
@@ -41,7 +41,7 @@ plain-requires-2 : tie.Need-plain-requires-2
 plain-requires-2 c κs = search needs
 
 returns-2 : tie.Need-returns-2
-returns-2 c = default-read _ _ _ (c .before .before .before .before .before .before .before .before .before .before .before .before .before .u32-at .ensures .0) (c .before .before .before .before .before .before .before .before .before .before .before .wide .ensures .0) (c .before .before .before .before .before .before .before .before .before .before .u32-at2 .ensures .0) (default-array _ _ _ (c .before .before .before .before .before .before .before .before .if2 .taken) (c .before .before .before .before .before .before .plain .ensures) (c .before .before .plain2 .ensures))
+returns-2 c = default-read _ _ _ _ (c .before .before .before .before .before .before .before .before .before .before .before .before .before .u32-at .ensures .0) (c .before .before .before .before .before .before .before .before .before .before .before .wide .ensures .0) (c .before .before .before .before .before .before .before .before .before .before .u32-at2 .ensures .0) (default-array _ _ _ _ (c .before .before .before .before .before .before .before .before .if2 .taken) (c .before .before .before .before .before .before .plain .ensures) (c .before .before .plain2 .ensures))
 
 plain-requires-3 : tie.Need-plain-requires-3
 plain-requires-3 c κs = search needs
@@ -68,16 +68,16 @@ primitive-requires : tie.Need-primitive-requires
 primitive-requires c κs = search needs
 
 returns-3 : tie.Need-returns-3
-returns-3 c = default-read _ _ _ (c .before .before .before .before .before .before .before .before .before .before .before .before .before .before .before .before .before .before .u32-at .ensures .0) (c .before .before .before .before .before .before .before .before .before .before .before .before .before .before .before .before .wide .ensures .0) (c .before .before .before .before .before .before .before .before .before .before .before .before .before .before .before .u32-at2 .ensures .0) (default-struct _ _ _ (c .before .before .before .before .before .before .before .before .before .before .before .plain3 .ensures) (c .before .before .before .before .before .before .before .plain4 .ensures) (c .before .before .before .before .match .keys1) (c .before .before .plain5 .ensures))
+returns-3 c = default-read _ _ _ _ (c .before .before .before .before .before .before .before .before .before .before .before .before .before .before .before .before .before .before .u32-at .ensures .0) (c .before .before .before .before .before .before .before .before .before .before .before .before .before .before .before .before .wide .ensures .0) (c .before .before .before .before .before .before .before .before .before .before .before .before .before .before .before .u32-at2 .ensures .0) (default-struct _ _ _ _ (c .before .before .before .before .before .before .before .before .before .before .before .plain3 .ensures) (c .before .before .before .before .before .before .before .plain4 .ensures) (c .before .before .before .before .match .keys1) (c .before .before .plain5 .ensures))
 
 returns-4 : tie.Need-returns-4
-returns-4 c = default-read _ _ _ (c .before .before .before .before .before .before .before .before .before .before .before .before .before .before .before .before .before .before .u32-at .ensures .0) (c .before .before .before .before .before .before .before .before .before .before .before .before .before .before .before .before .wide .ensures .0) (c .before .before .before .before .before .before .before .before .before .before .before .before .before .before .before .u32-at2 .ensures .0) (default-other _ _ _ (c .before .before .before .before .before .before .before .before .before .before .before .plain3 .ensures) (c .before .before .before .before .before .before .before .plain4 .ensures) (c .before .before .before .before .match .keys2) (c .before .before .plain6 .ensures))
+returns-4 c = default-read _ _ _ _ (c .before .before .before .before .before .before .before .before .before .before .before .before .before .before .before .before .before .before .u32-at .ensures .0) (c .before .before .before .before .before .before .before .before .before .before .before .before .before .before .before .before .wide .ensures .0) (c .before .before .before .before .before .before .before .before .before .before .before .before .before .before .before .u32-at2 .ensures .0) (default-other _ _ _ _ (c .before .before .before .before .before .before .before .before .before .before .before .plain3 .ensures) (c .before .before .before .before .before .before .before .plain4 .ensures) (c .before .before .before .before .match .keys2) (c .before .before .plain6 .ensures))
 
 returns-5 : tie.Need-returns-5
-returns-5 c = default-read _ _ _ (c .before .before .before .before .before .before .before .before .before .before .before .before .before .before .before .before .before .before .before .before .before .before .u32-at .ensures .0) (c .before .before .before .before .before .before .before .before .before .before .before .before .before .before .before .before .before .before .before .before .wide .ensures .0) (c .before .before .before .before .before .before .before .before .before .before .before .before .before .before .before .before .before .before .before .u32-at2 .ensures .0) (default-enum _ _ _ (c .before .before .before .before .before .before .before .before .before .before .before .before .before .before .before .plain3 .ensures) (c .before .before .before .before .before .before .before .before .before .before .before .plain4 .ensures) (c .before .before .before .before .before .before .before .before .match .keys3) (c .before .before .before .before .before .before .plain7 .ensures) (c .before .before .plain8 .ensures))
+returns-5 c = default-read _ _ _ _ (c .before .before .before .before .before .before .before .before .before .before .before .before .before .before .before .before .before .before .before .before .before .before .u32-at .ensures .0) (c .before .before .before .before .before .before .before .before .before .before .before .before .before .before .before .before .before .before .before .before .wide .ensures .0) (c .before .before .before .before .before .before .before .before .before .before .before .before .before .before .before .before .before .before .before .u32-at2 .ensures .0) (default-enum _ _ _ _ (c .before .before .before .before .before .before .before .before .before .before .before .before .before .before .before .plain3 .ensures) (c .before .before .before .before .before .before .before .before .before .before .before .plain4 .ensures) (c .before .before .before .before .before .before .before .before .match .keys3) (c .before .before .before .before .before .before .plain7 .ensures) (c .before .before .plain8 .ensures))
 
 returns-6 : tie.Need-returns-6
-returns-6 c = default-read _ _ _ (c .before .before .before .before .before .before .before .before .before .before .before .before .before .before .before .before .before .before .u32-at .ensures .0) (c .before .before .before .before .before .before .before .before .before .before .before .before .before .before .before .before .wide .ensures .0) (c .before .before .before .before .before .before .before .before .before .before .before .before .before .before .before .u32-at2 .ensures .0) (default-primitive _ _ _ (c .before .before .before .before .before .before .before .before .before .before .before .plain3 .ensures) (c .before .before .before .before .before .before .before .plain4 .ensures) (omega (arith, c .before .before .before .before .before .before .before .before .before .before .before .before .before .before .if1 .left, c .before .before .before .before .before .before .before .before .before .before .before .before .before .if2 .left, c .before .before .before .before .match .rest)) (c .before .before .primitive .ensures))
+returns-6 c = default-read _ _ _ _ (c .before .before .before .before .before .before .before .before .before .before .before .before .before .before .before .before .before .before .u32-at .ensures .0) (c .before .before .before .before .before .before .before .before .before .before .before .before .before .before .before .before .wide .ensures .0) (c .before .before .before .before .before .before .before .before .before .before .before .before .before .before .before .u32-at2 .ensures .0) (default-primitive _ _ _ _ (c .before .before .before .before .before .before .before .before .before .before .before .plain3 .ensures) (c .before .before .before .before .before .before .before .plain4 .ensures) (omega (arith, c .before .before .before .before .before .before .before .before .before .before .before .before .before .before .if1 .left, c .before .before .before .before .before .before .before .before .before .before .before .before .before .if2 .left, c .before .before .before .before .match .rest)) (c .before .before .primitive .ensures))
 
 same-length : tie.Need-same-length
 same-length c = search needs

@@ -21,7 +21,7 @@ emit-requires : tie.Need-emit-requires
 emit-requires c κs = search needs
 
 returns : tie.Need-returns
-returns c = plain-did _ _ _ _ _ _ (c .before .before .before .before .before .before .row-of .ensures) (c .before .before .before .before .before .masked .ensures) (c .before .before .before .before .masked2 .ensures) (c .before .before .emit .ensures)
+returns c = plain-did _ _ _ _ _ _ _ (c .before .before .before .before .before .before .row-of .ensures) (c .before .before .before .before .before .masked .ensures) (c .before .before .before .before .masked2 .ensures) (c .before .before .emit .ensures)
 
 same-length : tie.Need-same-length
 same-length c = search needs

@@ -429,7 +429,7 @@ arm-stmts-requires : (t : ℕ) → arm-lts.Need-stmts-requires (arm-calls t) (ar
 arm-stmts-requires t c κs = let k = arm-here _ _ _ _ (c .before .before .before .before .before .before .before .before .before .before .before .before .before .before .before .before .before .before .pre .1 .0) _ _ (c .before .before .before .before .before .before .before .before .before .before .before .before .before .before .end-of .ensures) (c .before .before .before .before .before .before .before .before .before .before .before .before .before .end-of2 .ensures) in (omega (arith, c .before .before .before .before .before .before .before .before .before .before .before .before .before .before .before .before .before .before .pre .0), (k .block, (k .fits, omega (arith, k .tail, c .before .before .before .before .before .before .before .before .before .before .before .before .before .before .before .before .before .before .pre .1 .1))))
 
 arm-returns : (t : ℕ) → arm-lts.Need-returns (arm-calls t) (arm-at t) arm.Post
-arm-returns t c = let k = arm-here _ _ _ _ (c .before .before .before .before .before .before .before .before .before .before .before .before .before .before .before .before .before .before .before .before .before .before .before .before .before .before .before .before .before .before .before .pre .1 .0) _ _ (c .before .before .before .before .before .before .before .before .before .before .before .before .before .before .before .before .before .before .before .before .before .before .before .before .before .before .before .end-of .ensures) (c .before .before .before .before .before .before .before .before .before .before .before .before .before .before .before .before .before .before .before .before .before .before .before .before .before .before .end-of2 .ensures) in recode (k .code (λ p q. jump JumpIfFalse (c .before .before .before .before .before .before .before .before .before .before .before .before .before .before .before .before .before .before .before .before .before .before .before .before .before .before .before .before .before .before .before .args .next) then p then q then jump Jump (c .before .before .before .before .before .before .before .before .before .before .before .before .before .before .before .before .before .before .before .before .before .before .before .before .before .before .before .before .before .before .before .args .exit) then act (mark (c .before .before .before .before .before .before .before .before .before .before .before .before .before .before .before .before .before .before .before .before .before .before .before .before .before .before .before .before .before .before .before .args .next))) (spanOf (c .before .before .before .before .before .before .before .before .before .before .before .before .before .before .before .before .before .before .before .before .before .before .before .before .before .before .before .before .before .before .before .args .span))) (both (emitted (c .before .before .before .before .before .before .before .before .before .before .before .before .before .before .before .before .before .before .before .before .before .before .before .before .jump .ensures)) (both (c .before .before .before .before .before .before .before .before .before .before .before .before .before .before .before .before .before .before .before .node .ensures) (both (c .before .before .before .before .before .before .before .before .before .before .before .before .stmts .ensures) (both (emitted (c .before .before .before .before .before .before .jump2 .ensures)) (labelled (c .before .before .mark-label .ensures))))))
+arm-returns t c = let k = arm-here _ _ _ _ (c .before .before .before .before .before .before .before .before .before .before .before .before .before .before .before .before .before .before .before .before .before .before .before .before .before .before .before .before .before .before .before .pre .1 .0) _ _ (c .before .before .before .before .before .before .before .before .before .before .before .before .before .before .before .before .before .before .before .before .before .before .before .before .before .before .before .end-of .ensures) (c .before .before .before .before .before .before .before .before .before .before .before .before .before .before .before .before .before .before .before .before .before .before .before .before .before .before .end-of2 .ensures) in recode (k .code (λ p q. jump (c .before .before .before .before .before .before .before .before .before .before .before .before .before .before .before .before .before .before .before .before .before .before .before .before .before .before .before .before .before .before .before .args .site) JumpIfFalse (c .before .before .before .before .before .before .before .before .before .before .before .before .before .before .before .before .before .before .before .before .before .before .before .before .before .before .before .before .before .before .before .args .next) then p then q then jump (c .before .before .before .before .before .before .before .before .before .before .before .before .before .before .before .before .before .before .before .before .before .before .before .before .before .before .before .before .before .before .before .args .site) Jump (c .before .before .before .before .before .before .before .before .before .before .before .before .before .before .before .before .before .before .before .before .before .before .before .before .before .before .before .before .before .before .before .args .exit) then act (mark (c .before .before .before .before .before .before .before .before .before .before .before .before .before .before .before .before .before .before .before .before .before .before .before .before .before .before .before .before .before .before .before .args .next))) (spanOf (c .before .before .before .before .before .before .before .before .before .before .before .before .before .before .before .before .before .before .before .before .before .before .before .before .before .before .before .before .before .before .before .args .span))) (both (emitted (c .before .before .before .before .before .before .before .before .before .before .before .before .before .before .before .before .before .before .before .before .before .before .before .before .jump .ensures)) (both (c .before .before .before .before .before .before .before .before .before .before .before .before .before .before .before .before .before .before .before .node .ensures) (both (c .before .before .before .before .before .before .before .before .before .before .before .before .stmts .ensures) (both (emitted (c .before .before .before .before .before .before .jump2 .ensures)) (labelled (c .before .before .mark-label .ensures))))))
 
 abbrev arms-Inv-loop : arms-lts.InvT-loop
 arms-Inv-loop s at end depth span site first exit out₀ marks₀ i₀ v₀ next₀ out marks i v next = ArmsRest depth s end site exit (spanOf span) (codeOf (λ xs. lowerBranches (branchesOf xs) site first exit (spanOf span)) (armsFrom depth s end at)) v₀ out₀ marks₀ next i v out marks
@@ -560,10 +560,10 @@ case-stmts-requires : (t : ℕ) → case-lts.Need-stmts-requires (case-calls t) 
 case-stmts-requires t c κs = let k = arm-here _ _ _ _ (c .before .before .before .before .before .before .before .before .before .before .before .before .before .before .before .before .before .before .before .before .before .before .before .pre .1 .0) _ _ (c .before .before .before .before .before .before .before .before .before .before .before .before .before .before .before .before .before .before .before .end-of .ensures) (c .before .before .before .before .before .before .before .before .before .before .before .before .before .before .before .before .before .before .end-of2 .ensures) in (omega (arith, c .before .before .before .before .before .before .before .before .before .before .before .before .before .before .before .before .before .before .before .before .before .before .before .pre .0), (k .block, (k .fits, omega (arith, k .tail, c .before .before .before .before .before .before .before .before .before .before .before .before .before .before .before .before .before .before .before .before .before .before .before .pre .1 .1))))
 
 case-returns : (t : ℕ) → case-lts.Need-returns (case-calls t) (case-at t) case.Post
-case-returns t c = let k = arm-here _ _ _ _ (c .before .before .before .before .before .before .before .before .before .before .before .before .before .before .before .before .before .before .before .before .before .before .before .before .before .before .before .before .pre .1 .0) _ _ (c .before .before .before .before .before .before .before .before .before .before .before .before .before .before .before .before .before .before .before .before .before .before .before .before .end-of .ensures) (c .before .before .before .before .before .before .before .before .before .before .before .before .before .before .before .before .before .before .before .before .before .before .before .end-of2 .ensures) in recode (k .code (λ p q. jumps SwitchLabel (c .before .before .before .before .before .before .before .before .before .before .before .before .before .before .before .before .before .before .before .before .before .before .before .before .before .before .before .before .args .next) (c .before .before .before .before .before .before .before .before .before .before .before .before .before .before .before .before .before .before .before .before .before .before .before .before .before .before .before .before .args .body) then p then ending (c .before .before .before .before .before .before .before .before .before .before .before .before .before .before .before .before .before .before .before .before .before .before .before .before .before .before .before .before .args .ends) (c .before .before .before .before .before .before .before .before .before .before .before .before .before .before .before .before .before .before .before .before .before .before .before .before .before .before .before .before .args .body) q) (spanOf (c .before .before .before .before .before .before .before .before .before .before .before .before .before .before .before .before .before .before .before .before .before .before .before .before .before .before .before .before .args .span))) (both (emitted (c .before .before .before .before .before .before .before .before .before .before .before .before .before .before .before .before .before .before .before .before .before .jumps .ensures)) (both (c .before .before .before .before .before .before .before .before .before .before .before .before .before .before .before .before .node .ensures) (recode (ends-true _ _ _ (c .before .before .before .before .before .before .before .before .before .before .before .if1 .taken)) (both (labelled (c .before .before .before .before .before .before .before .before .before .mark-label .ensures)) (c .before .before .before .before .stmts .ensures)))))
+case-returns t c = let k = arm-here _ _ _ _ (c .before .before .before .before .before .before .before .before .before .before .before .before .before .before .before .before .before .before .before .before .before .before .before .before .before .before .before .before .pre .1 .0) _ _ (c .before .before .before .before .before .before .before .before .before .before .before .before .before .before .before .before .before .before .before .before .before .before .before .before .end-of .ensures) (c .before .before .before .before .before .before .before .before .before .before .before .before .before .before .before .before .before .before .before .before .before .before .before .end-of2 .ensures) in recode (k .code (λ p q. jumps (c .before .before .before .before .before .before .before .before .before .before .before .before .before .before .before .before .before .before .before .before .before .before .before .before .before .before .before .before .args .site) SwitchLabel (c .before .before .before .before .before .before .before .before .before .before .before .before .before .before .before .before .before .before .before .before .before .before .before .before .before .before .before .before .args .next) (c .before .before .before .before .before .before .before .before .before .before .before .before .before .before .before .before .before .before .before .before .before .before .before .before .before .before .before .before .args .body) then p then ending (c .before .before .before .before .before .before .before .before .before .before .before .before .before .before .before .before .before .before .before .before .before .before .before .before .before .before .before .before .args .ends) (c .before .before .before .before .before .before .before .before .before .before .before .before .before .before .before .before .before .before .before .before .before .before .before .before .before .before .before .before .args .body) q) (spanOf (c .before .before .before .before .before .before .before .before .before .before .before .before .before .before .before .before .before .before .before .before .before .before .before .before .before .before .before .before .args .span))) (both (emitted (c .before .before .before .before .before .before .before .before .before .before .before .before .before .before .before .before .before .before .before .before .before .jumps .ensures)) (both (c .before .before .before .before .before .before .before .before .before .before .before .before .before .before .before .before .node .ensures) (recode (ends-true _ _ _ (c .before .before .before .before .before .before .before .before .before .before .before .if1 .taken)) (both (labelled (c .before .before .before .before .before .before .before .before .before .mark-label .ensures)) (c .before .before .before .before .stmts .ensures)))))
 
 case-returns-2 : (t : ℕ) → case-lts.Need-returns-2 (case-calls t) (case-at t) case.Post
-case-returns-2 t c = let k = arm-here _ _ _ _ (c .before .before .before .before .before .before .before .before .before .before .before .before .before .before .before .before .before .pre .1 .0) _ _ (c .before .before .before .before .before .before .before .before .before .before .before .before .before .end-of .ensures) (c .before .before .before .before .before .before .before .before .before .before .before .before .end-of2 .ensures) in recode (k .code (λ p q. jumps SwitchLabel (c .before .before .before .before .before .before .before .before .before .before .before .before .before .before .before .before .before .args .next) (c .before .before .before .before .before .before .before .before .before .before .before .before .before .before .before .before .before .args .body) then p then ending (c .before .before .before .before .before .before .before .before .before .before .before .before .before .before .before .before .before .args .ends) (c .before .before .before .before .before .before .before .before .before .before .before .before .before .before .before .before .before .args .body) q) (spanOf (c .before .before .before .before .before .before .before .before .before .before .before .before .before .before .before .before .before .args .span))) (both (emitted (c .before .before .before .before .before .before .before .before .before .before .jumps .ensures)) (both (c .before .before .before .before .before .node .ensures) (recode (ends-false _ _ _ (c .if1 .left)) nothing)))
+case-returns-2 t c = let k = arm-here _ _ _ _ (c .before .before .before .before .before .before .before .before .before .before .before .before .before .before .before .before .before .pre .1 .0) _ _ (c .before .before .before .before .before .before .before .before .before .before .before .before .before .end-of .ensures) (c .before .before .before .before .before .before .before .before .before .before .before .before .end-of2 .ensures) in recode (k .code (λ p q. jumps (c .before .before .before .before .before .before .before .before .before .before .before .before .before .before .before .before .before .args .site) SwitchLabel (c .before .before .before .before .before .before .before .before .before .before .before .before .before .before .before .before .before .args .next) (c .before .before .before .before .before .before .before .before .before .before .before .before .before .before .before .before .before .args .body) then p then ending (c .before .before .before .before .before .before .before .before .before .before .before .before .before .before .before .before .before .args .ends) (c .before .before .before .before .before .before .before .before .before .before .before .before .before .before .before .before .before .args .body) q) (spanOf (c .before .before .before .before .before .before .before .before .before .before .before .before .before .before .before .before .before .args .span))) (both (emitted (c .before .before .before .before .before .before .before .before .before .before .jumps .ensures)) (both (c .before .before .before .before .before .node .ensures) (recode (ends-false _ _ _ (c .if1 .left)) nothing)))
 
 abbrev cases-Inv-loop : cases-lts.InvT-loop
 cases-Inv-loop s at end depth span site first out₀ marks₀ i₀ v₀ next₀ group₀ out marks i v next group = CasesRest depth s end site (spanOf span) (codeOf (λ xs. lowerCases (casesOf xs) site first none (spanOf span)) (armsFrom depth s end at)) v₀ out₀ marks₀ next group i v out marks

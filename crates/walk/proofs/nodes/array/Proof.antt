@@ -30,11 +30,11 @@ elements-requires : tie.Need-elements-requires
 elements-requires c κs = let k = array-run _ _ _ _ (spanOf (c .before .before .before .before .before .before .before .before .before .before .before .before .before .before .before .before .before .before .before .before .before .before .args .span)) (c .before .before .before .before .before .before .before .before .before .before .before .before .before .before .before .before .before .before .before .before .before .before .pre .0) _ (c .before .before .before .before .before .before .before .before .before .before .before .before .before .before .before .before .before .before .end-of .ensures) (c .before .before .before .before .before .before .before .before .before .before .before .before .before .before .before .before .before .before .before .before .before .before .pre .1 .1) in (k .1, (k .0, omega (arith, stmt-placed _ _ _ _ ((c .before .before .before .before .before .before .before .before .before .before .before .before .before .before .before .before .before .before .before .before .before .before .pre .0) .2) .0, c .before .before .before .before .before .before .before .before .before .before .before .before .before .before .before .before .before .before .before .before .before .before .pre .1 .0, c .before .before .before .before .before .before .before .before .before .before .before .before .before .before .before .before .before .before .end-of .ensures)))
 
 returns : tie.Need-returns
-returns c = recode (array-here _ _ _ _ (spanOf (c .before .before .before .before .before .before .before .before .before .before .before .before .before .before .before .before .before .before .before .before .before .before .before .before .before .before .before .args .span)) (c .before .before .before .before .before .before .before .before .before .before .before .before .before .before .before .before .before .before .before .before .before .before .before .before .before .before .before .pre .0) _ (c .before .before .before .before .before .before .before .before .before .before .before .before .before .before .before .before .before .before .before .before .before .before .before .end-of .ensures) _ _ _ (c .before .before .before .before .before .before .before .before .before .before .before .before .before .before .before .before .before .before .before .count .ensures) (c .before .before .before .before .before .before .before .before .before .before .before .before .before .before .before .before .before .before .before .before .before .before .u32-at .ensures .0) (c .before .before .before .before .before .before .before .before .before .before .before .before .before .before .before .before .before .before .before .before .before .u32-at2 .ensures .0) (c .before .before .before .before .before .before .before .before .before .before .before .before .before .before .before .before .before .before .before .before .before .before .before .before .before .before .before .pre .1 .1) ∙ an-array _ _ _ _ (run-some _ _ _ _ _ (array-run _ _ _ _ (spanOf (c .before .before .before .before .before .before .before .before .before .before .before .before .before .before .before .before .before .before .before .before .before .before .before .before .before .before .before .args .span)) (c .before .before .before .before .before .before .before .before .before .before .before .before .before .before .before .before .before .before .before .before .before .before .before .before .before .before .before .pre .0) _ (c .before .before .before .before .before .before .before .before .before .before .before .before .before .before .before .before .before .before .before .before .before .before .before .end-of .ensures) (c .before .before .before .before .before .before .before .before .before .before .before .before .before .before .before .before .before .before .before .before .before .before .before .before .before .before .before .pre .1 .1) .1) (c .before .before .before .before .before .before .before .before .before .before .before .before .before .before .before .before .before .before .before .before .if1 .taken) (c .before .before .before .before .before .before .before .before .before .before .before .before .before .before .before .before .before .before .before .count .ensures)))
+returns c = recode (array-here _ _ _ _ (spanOf (c .before .before .before .before .before .before .before .before .before .before .before .before .before .before .before .before .before .before .before .before .before .before .before .before .before .before .before .args .span)) (c .before .before .before .before .before .before .before .before .before .before .before .before .before .before .before .before .before .before .before .before .before .before .before .before .before .before .before .pre .0) _ (c .before .before .before .before .before .before .before .before .before .before .before .before .before .before .before .before .before .before .before .before .before .before .before .end-of .ensures) _ _ _ (c .before .before .before .before .before .before .before .before .before .before .before .before .before .before .before .before .before .before .before .count .ensures) (c .before .before .before .before .before .before .before .before .before .before .before .before .before .before .before .before .before .before .before .before .before .before .u32-at .ensures .0) (c .before .before .before .before .before .before .before .before .before .before .before .before .before .before .before .before .before .before .before .before .before .u32-at2 .ensures .0) (c .before .before .before .before .before .before .before .before .before .before .before .before .before .before .before .before .before .before .before .before .before .before .before .before .before .before .before .pre .1 .1) ∙ an-array _ _ _ _ _ (run-some _ _ _ _ _ (array-run _ _ _ _ (spanOf (c .before .before .before .before .before .before .before .before .before .before .before .before .before .before .before .before .before .before .before .before .before .before .before .before .before .before .before .args .span)) (c .before .before .before .before .before .before .before .before .before .before .before .before .before .before .before .before .before .before .before .before .before .before .before .before .before .before .before .pre .0) _ (c .before .before .before .before .before .before .before .before .before .before .before .before .before .before .before .before .before .before .before .before .before .before .before .end-of .ensures) (c .before .before .before .before .before .before .before .before .before .before .before .before .before .before .before .before .before .before .before .before .before .before .before .before .before .before .before .pre .1 .1) .1) (c .before .before .before .before .before .before .before .before .before .before .before .before .before .before .before .before .before .before .before .before .if1 .taken) (c .before .before .before .before .before .before .before .before .before .before .before .before .before .before .before .before .before .before .before .count .ensures)))
     (both (both (emitted (c .before .before .before .before .before .before .before .before .before .before .before .before .before .before .before .before .before .plain .ensures)) (both (emitted (c .before .before .before .before .before .before .before .before .before .before .before .before .before .plain2 .ensures)) (both (emitted (c .before .before .before .before .before .before .before .before .before .plain3 .ensures)) nothing))) (c .before .before .before .before .elements .ensures))
 
 returns-2 : tie.Need-returns-2
-returns-2 c = recode (array-here _ _ _ _ (spanOf (c .before .before .before .before .before .before .before .args .span)) (c .before .before .before .before .before .before .before .pre .0) _ (c .before .before .before .end-of .ensures) _ _ _ refl (c .before .before .u32-at .ensures .0) (c .before .u32-at2 .ensures .0) (c .before .before .before .before .before .before .before .pre .1 .1) ∙ no-array _ _ _ _ (run-none _ _ _ _ (array-run _ _ _ _ (spanOf (c .before .before .before .before .before .before .before .args .span)) (c .before .before .before .before .before .before .before .pre .0) _ (c .before .before .before .end-of .ensures) (c .before .before .before .before .before .before .before .pre .1 .1) .1) (c .if1 .left))) nothing
+returns-2 c = recode (array-here _ _ _ _ (spanOf (c .before .before .before .before .before .before .before .args .span)) (c .before .before .before .before .before .before .before .pre .0) _ (c .before .before .before .end-of .ensures) _ _ _ refl (c .before .before .u32-at .ensures .0) (c .before .u32-at2 .ensures .0) (c .before .before .before .before .before .before .before .pre .1 .1) ∙ no-array _ _ _ _ _ (run-none _ _ _ _ (array-run _ _ _ _ (spanOf (c .before .before .before .before .before .before .before .args .span)) (c .before .before .before .before .before .before .before .pre .0) _ (c .before .before .before .end-of .ensures) (c .before .before .before .before .before .before .before .pre .1 .1) .1) (c .if1 .left))) nothing
 
 pub array-spec : {M : Type 1} → statement M
 array-spec = tie.close (tie.spec end-of-requires sub-below add-first add-u32-at (λ c κs. search needs) add-u32-at-2

@@ -10,13 +10,13 @@ use Rattle.walk.proofs.nodes.elements.Statement.{statement}
 use Rattle.walk.proofs.nodes.elements.Tie as tie
 
 abbrev Inv-loop : tie.InvT-loop
-Inv-loop s at end depth span local typ out₀ marks₀ i₀ v₀ k₀ out marks i v k = ElemsRest depth s end local typ (codeOf (λ xs. lowerElements (exprsOf xs) local typ 0) (exprsFrom depth s end at)) v₀ out₀ marks₀ k i v out marks
+Inv-loop s at end depth span site local typ out₀ marks₀ i₀ v₀ k₀ out marks i v k = ElemsRest depth s end site local typ (codeOf (λ xs. lowerElements (exprsOf xs) site local typ 0) (exprsFrom depth s end at)) v₀ out₀ marks₀ k i v out marks
 
 abbrev μ-loop : tie.MeasureT-loop
-μ-loop s at end depth span local typ out₀ marks₀ i₀ v₀ k₀ out marks i v k = end - i
+μ-loop s at end depth span site local typ out₀ marks₀ i₀ v₀ k₀ out marks i v k = end - i
 
 loop-holds : tie.Need-loop-holds Inv-loop μ-loop
-loop-holds c = elems-start _ _ _ _ _ _ _ _ _ (c .before .before .before .pre .1 .0) (c .before .before .before .pre .0)
+loop-holds c = elems-start _ _ _ _ _ _ _ _ _ _ (c .before .before .before .pre .1 .0) (c .before .before .before .pre .0)
 
 node-requires : tie.Need-node-requires Inv-loop μ-loop
 node-requires c κs = let k = elems-turn (c .before .before .before .before .before .before .before .loop .inv) (c .before .before .before .before .before .before .loop-test .taken) in ((k .item, k .next, k .reads), c .before .before .before .before .before .before .before .before .before .before .before .pre .1 .1)

@@ -31,7 +31,7 @@ node-requires c κs = let k = return-value _ _ _ _ (spanOf (c .before .before .b
 
 returns-2 : tie.Need-returns-2
 unfolding spanOf
-returns-2 c = let k = return-value _ _ _ _ (spanOf (c .before .before .before .before .before .before .before .before .before .before .before .before .before .before .before .before .before .before .before .args .span)) (c .before .before .before .before .before .before .before .before .before .before .before .before .before .before .before .before .before .before .before .pre .0) _ (c .before .before .before .before .before .before .before .before .before .before .before .before .before .before .before .end-of .ensures) (c .before .before .before .before .before .before .before .before .before .before .before .before .before .before .before .before .before .before .before .pre .1 .1) (c .before .before .before .before .before .before .before .before .before .before .before .before .before .if1 .left) in recode (k .1 ∙ return-after _ _ (c .before .before .before .before .before .before .before .before .before .before .before .if2 .taken)) (both (c .before .before .before .before .before .before .before .before .node .ensures) (emitted (c .before .before .returned2 .ensures)))
+returns-2 c = let k = return-value _ _ _ _ (spanOf (c .before .before .before .before .before .before .before .before .before .before .before .before .before .before .before .before .before .before .before .args .span)) (c .before .before .before .before .before .before .before .before .before .before .before .before .before .before .before .before .before .before .before .pre .0) _ (c .before .before .before .before .before .before .before .before .before .before .before .before .before .before .before .end-of .ensures) (c .before .before .before .before .before .before .before .before .before .before .before .before .before .before .before .before .before .before .before .pre .1 .1) (c .before .before .before .before .before .before .before .before .before .before .before .before .before .if1 .left) in recode (k .1 ∙ return-after _ _ _ (c .before .before .before .before .before .before .before .before .before .before .before .if2 .taken)) (both (c .before .before .before .before .before .before .before .before .node .ensures) (emitted (c .before .before .returned2 .ensures)))
 
 add-node-2 : tie.Need-add-node-2
 add-node-2 c = omega (arith, return-fits _ _ _ _ (spanOf (c .before .before .before .before .before .before .before .before .before .before .before .before .args .span)) (c .before .before .before .before .before .before .before .before .before .before .before .before .pre .0) _ (c .before .before .before .before .before .before .before .before .end-of .ensures) (c .before .before .before .before .before .before .before .before .before .before .before .before .pre .1 .1), stmt-placed _ _ _ _ ((c .before .before .before .before .before .before .before .before .before .before .before .before .pre .0) .2) .0, c .before .before .before .before .before .before .before .before .before .before .before .before .pre .1 .0, c .before .before .before .before .before .before .before .before .end-of .ensures, c .before .before .before .before .before .before .before .before .before .before .before .before .fits)
@@ -41,7 +41,7 @@ node-requires-2 c κs = let k = return-value _ _ _ _ (spanOf (c .before .before 
 
 returns-3 : tie.Need-returns-3
 unfolding spanOf
-returns-3 c = let k = return-value _ _ _ _ (spanOf (c .before .before .before .before .before .before .before .before .before .before .before .before .before .before .before .before .before .before .before .args .span)) (c .before .before .before .before .before .before .before .before .before .before .before .before .before .before .before .before .before .before .before .pre .0) _ (c .before .before .before .before .before .before .before .before .before .before .before .before .before .before .before .end-of .ensures) (c .before .before .before .before .before .before .before .before .before .before .before .before .before .before .before .before .before .before .before .pre .1 .1) (c .before .before .before .before .before .before .before .before .before .before .before .before .before .if1 .left) in recode (k .1 ∙ return-before _ _ (c .before .before .before .before .before .before .before .before .before .before .before .if2 .left)) (both (emitted (c .before .before .before .before .before .before .before .before .before .plain .ensures)) (c .before .before .before .before .node2 .ensures))
+returns-3 c = let k = return-value _ _ _ _ (spanOf (c .before .before .before .before .before .before .before .before .before .before .before .before .before .before .before .before .before .before .before .args .span)) (c .before .before .before .before .before .before .before .before .before .before .before .before .before .before .before .before .before .before .before .pre .0) _ (c .before .before .before .before .before .before .before .before .before .before .before .before .before .before .before .end-of .ensures) (c .before .before .before .before .before .before .before .before .before .before .before .before .before .before .before .before .before .before .before .pre .1 .1) (c .before .before .before .before .before .before .before .before .before .before .before .before .before .if1 .left) in recode (k .1 ∙ return-before _ _ _ (c .before .before .before .before .before .before .before .before .before .before .before .if2 .left)) (both (emitted (c .before .before .before .before .before .before .before .before .before .plain .ensures)) (c .before .before .before .before .node2 .ensures))
 
 pub ret-spec : {M : Type 1} → statement M
 ret-spec = tie.close (tie.spec end-of-requires sub-below add-if1 shared-slice-read-if1 (λ c κs. search needs)
