@@ -15,10 +15,11 @@
 extern "C" {
 #endif
 
-/* What a unit takes: how many records and labels, and its total size. A listing of n records has 5 + 18 n bytes. */
+/* What a unit takes: how many records and labels, and its total size. A listing of n records has 5 + 22 n bytes. */
 bool delzhomo_measure(const uint8_t *unit, size_t unit_length, size_t *first, size_t *second, size_t *third);
 
-/* The labelled listing of a unit into out and its label table into marks: how many records and labels, and its total size. */
+/* The labelled listing of a unit into out and its label table into marks: how many records and labels, and its total size. The last
+ * four bytes of a record are the unit offset of the node that emitted it. */
 bool delzhomo_lower(const uint8_t *unit, size_t unit_length, uint8_t *out, size_t out_length, uint32_t *marks, size_t marks_length,
                     size_t *first, size_t *second, size_t *third);
 

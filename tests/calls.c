@@ -6,6 +6,9 @@
 
 static const uint8_t unit[] = {1, 0, 0, 0, 26, 0, 0, 0, 0, 21, 0, 0, 0, 17, 3, 0, 0, 0, 3, 2, 15, 0, 0, 0, 0, 5, 0, 0, 0, 1, 8};
 
+/* A listing of the unit's four records. */
+enum { FRONT = 5, RECORD = 22, LENGTH = FRONT + 4 * RECORD };
+
 static int failures;
 
 static void expect(const char *what, bool holds) {
@@ -28,27 +31,29 @@ static bool all(const uint8_t *bytes, size_t n, uint8_t value) {
 }
 
 int main(void) {
-    uint8_t listing[80], code[80];
+    uint8_t listing[LENGTH + 3], code[LENGTH + 3];
     uint32_t marks[3] = {7, 7, 7};
     memset(listing, 0xA5, sizeof listing);
     memset(code, 0xA5, sizeof code);
 
     expect("measure", delzhomo_measure(unit, sizeof unit, &a, &b, &c) && are(4, 2, 10));
     expect("measure, no unit", !delzhomo_measure(unit, 5, &a, &b, &c) && are(1, 0, 0));
-    expect("lower, a byte short", !delzhomo_lower(unit, sizeof unit, listing, 76, marks, 3, &a, &b, &c) && are(20, 0, 0));
+    expect("lower, a byte short", !delzhomo_lower(unit, sizeof unit, listing, LENGTH - 1, marks, 3, &a, &b, &c) && are(20, 0, 0));
     expect("a refusal leaves the listing", all(listing, sizeof listing, 0xA5));
     expect("a refusal leaves the marks", marks[0] == 7 && marks[1] == 7);
     expect("lower", delzhomo_lower(unit, sizeof unit, listing, sizeof listing, marks, 3, &a, &b, &c) && are(4, 2, 10));
     expect("the marks", marks[0] == 0 && marks[1] == 10 && marks[2] == 7);
-    expect("behind the listing", all(listing + 77, 3, 0xA5));
-    expect("check", delzhomo_check(listing, 77, &a, &b, &c) && are(4, 0, 0));
-    expect("check, a part record", !delzhomo_check(listing, 76, &a, &b, &c) && are(30, 0, 0));
-    expect("view", delzhomo_view(listing, 77, 2, &a, &b, &c) && are(41, 18, 0));
-    expect("view, past the end", !delzhomo_view(listing, 77, 4, &a, &b, &c) && are(22, 4, 0));
-    expect("resolve, no table", !delzhomo_resolve(listing, 77, marks, 0, code, sizeof code, &a, &b, &c) && are(31, 0, 0));
+    expect("behind the listing", all(listing + LENGTH, 3, 0xA5));
+    expect("check", delzhomo_check(listing, LENGTH, &a, &b, &c) && are(4, 0, 0));
+    expect("check, a part record", !delzhomo_check(listing, LENGTH - 1, &a, &b, &c) && are(30, 0, 0));
+    expect("view", delzhomo_view(listing, LENGTH, 2, &a, &b, &c) && are(FRONT + 2 * RECORD, RECORD, 0));
+    expect("view, past the end", !delzhomo_view(listing, LENGTH, 4, &a, &b, &c) && are(22, 4, 0));
+    expect("resolve, no table", !delzhomo_resolve(listing, LENGTH, marks, 0, code, sizeof code, &a, &b, &c) && are(31, 0, 0));
     expect("a refusal leaves the code", all(code, sizeof code, 0xA5));
-    expect("resolve", delzhomo_resolve(listing, 77, marks, 3, code, sizeof code, &a, &b, &c) && are(4, 0, 0));
-    expect("the last distance is -7", code[5 + 18 * 3 + 2] == 0xFF && code[5 + 18 * 3 + 3] == 0xF9);
+    expect("resolve", delzhomo_resolve(listing, LENGTH, marks, 3, code, sizeof code, &a, &b, &c) && are(4, 0, 0));
+    const uint8_t *last = code + FRONT + 3 * RECORD;
+    expect("the last distance is -7", last[2] == 0xFF && last[3] == 0xF9);
+    expect("its node is the While at 10", last[18] == 0 && last[19] == 0 && last[20] == 0 && last[21] == 10);
     if (failures == 0) printf("calls.c: every call answers as it should\n");
     return failures != 0;
 }

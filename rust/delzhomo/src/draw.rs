@@ -2,12 +2,14 @@
 //!
 //! Jumps that land on the same instruction share one arrow. An arrow has a column of its own as far as it reaches; shorter arrows
 //! stand nearer to the text, so that an arrow inside another never crosses it. Each line then has the start, the name and the
-//! fields that the instruction uses, jumps with their distance and the offset where they land.
+//! fields that the instruction uses, jumps with their distance and the offset where they land; on request the nodes down to the one that
+//! emitted it, in a column of their own.
 
 use std::collections::BTreeMap;
 use std::fmt::{self, Write};
 
 use crate::listing::{Instruction, Listing};
+use crate::path::{Nodes, path_text};
 use crate::tag::ValueForm;
 
 /// How many columns of arrows there are at most, unless asked for otherwise.
@@ -22,6 +24,7 @@ pub struct Drawing<'a> {
     listing: Listing<'a>,
     columns: usize,
     ascii: bool,
+    nodes: Option<&'a Nodes>,
 }
 
 impl<'a> Drawing<'a> {
@@ -31,6 +34,7 @@ impl<'a> Drawing<'a> {
             listing,
             columns: COLUMNS,
             ascii: false,
+            nodes: None,
         }
     }
 
@@ -43,6 +47,12 @@ impl<'a> Drawing<'a> {
     pub fn ascii(self, ascii: bool) -> Self {
         Self { ascii, ..self }
     }
+
+    /// With the path to each instruction's node beside it. These are the nodes of the unit that the listing was made from.
+    pub fn nodes(self, nodes: &'a Nodes) -> Self {
+        let nodes = Some(nodes);
+        Self { nodes, ..self }
+    }
 }
 
 impl fmt::Display for Drawing<'_> {
@@ -52,19 +62,41 @@ impl fmt::Display for Drawing<'_> {
         let mut columns = place(rows.arrows(), self.columns);
         let end = self.listing.size();
         let width = end.to_string().len();
-        let mut line = String::new();
+        let mut lines = Vec::with_capacity(self.listing.len());
         for instruction in &self.listing {
+            let mut line = String::new();
             let targets = rows.targets(&instruction);
             let row = instruction.index;
             columns.draw(row, &targets, glyphs, &mut line)?;
             let (start, name) = (instruction.start, instruction.tag);
             write!(line, "{start:>width$}  {name:<NAME_WIDTH$}")?;
             write_fields(&instruction, glyphs.lands, &mut line)?;
-            writeln!(f, "{}", line.trim_end())?;
-            line.clear();
+            lines.push(line);
         }
+        self.write_nodes(&mut lines)?;
+        for line in lines {
+            writeln!(f, "{}", line.trim_end())?;
+        }
+        let mut line = String::new();
         columns.draw(rows.count(), &[], glyphs, &mut line)?;
         writeln!(f, "{line}{end:>width$}  end")
+    }
+}
+
+impl Drawing<'_> {
+    /// Puts the paths, if they are asked for, in a column behind the longest line.
+    fn write_nodes(&self, lines: &mut [String]) -> fmt::Result {
+        let Some(nodes) = self.nodes else {
+            return Ok(());
+        };
+        let length = |line: &String| line.chars().count();
+        let longest = lines.iter().map(length).max().unwrap_or_default();
+        for (line, instruction) in lines.iter_mut().zip(&self.listing) {
+            let gap = longest - length(line);
+            let path = nodes.path(instruction.node as usize);
+            write!(line, "{:gap$}  {}", "", path_text(&path))?;
+        }
+        Ok(())
     }
 }
 

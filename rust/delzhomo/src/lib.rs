@@ -43,7 +43,7 @@ pub use draw::Drawing;
 pub use encode::{EncodeError, MAX_BYTES, MAX_DEPTH};
 pub use kind::Kind;
 pub use listing::{Instruction, Instructions, Label, Labelled, Listing, Loc, listing_length};
-pub use path::Step;
+pub use path::{Nodes, Step, path_text};
 pub use refusal::{Place, Refusal};
 pub use tag::Tag;
 pub use tree::{Block, Case, ConditionalBlock, Expr, Script, Stmt};

@@ -12,7 +12,7 @@ use crate::{Refusal, ffi};
 const FRONT: usize = 5;
 
 /// Bytes of a record.
-const RECORD: usize = 18;
+const RECORD: usize = 22;
 
 /// How many records a listing may have.
 const MAX_RECORDS: usize = 1_048_576;
@@ -86,6 +86,8 @@ pub struct Instruction<L = i16> {
     pub flags: u16,
     /// An index, or the bits of a constant.
     pub value: u64,
+    /// The unit offset of the node that emitted it: the one whose own rule makes the instruction, never a child or a holder.
+    pub node: u32,
 }
 
 impl<L: Loc> Instruction<L> {
@@ -107,6 +109,10 @@ impl<L: Loc> Instruction<L> {
             g0,
             g1,
             ref value @ ..,
+            n0,
+            n1,
+            n2,
+            n3,
         ] = record;
         let tag = Tag::new(number)?;
         let uses = tag.fields();
@@ -121,6 +127,7 @@ impl<L: Loc> Instruction<L> {
             line: u16::from_be_bytes([l0, l1]),
             flags: u16::from_be_bytes([g0, g1]),
             value: u64::from_be_bytes(*value),
+            node: u32::from_be_bytes([n0, n1, n2, n3]),
         })
     }
 }

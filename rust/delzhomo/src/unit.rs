@@ -4,7 +4,7 @@ use std::error::Error;
 use std::fmt;
 use std::str::FromStr;
 
-use crate::path::{self, Step};
+use crate::path::{self, Nodes, Step};
 
 /// The bytes of one script. Any bytes can be handed in; the assembler refuses what is no unit.
 #[derive(Debug, Clone, PartialEq, Eq, Hash)]
@@ -51,6 +51,12 @@ impl Unit {
     /// empty for the unit's own front and block. In a damaged unit the path goes as far as the bytes can be followed.
     pub fn path(&self, place: usize) -> Vec<Step> {
         path::path(&self.bytes, place)
+    }
+
+    /// All nodes of the unit, for the paths to many of them: to the [node](crate::Instruction::node) of each instruction, say. In a
+    /// damaged unit they go as far as the bytes can be followed.
+    pub fn nodes(&self) -> Nodes {
+        path::nodes(&self.bytes)
     }
 }
 

@@ -89,7 +89,8 @@ fn a_long_unit_is_taken_and_its_distance_refused() {
     let ran = run(&["stage", &example("too-distant")], b"");
     assert_eq!((ran.status, ran.text()), (1, "refused 32 0 0\n"));
     assert!(
-        ran.stderr.contains("record 0: JumpIfFalse at 0"),
+        ran.stderr
+            .contains("record 0: JumpIfFalse at 0\n  path: While at 10"),
         "{}",
         ran.stderr
     );
@@ -134,7 +135,7 @@ fn check_and_view() {
 #[test]
 fn listings_are_written_and_taken() {
     let listing = run(&["stage", "--bytes", &example("while-false")], b"").stdout;
-    assert_eq!(listing.len(), 5 + 18 * 4);
+    assert_eq!(listing.len(), 5 + 22 * 4);
     let ran = run(&["check", "--listing", "-"], &listing);
     assert_eq!((ran.status, ran.text()), (0, "records 4\n"));
     let ran = run(&["view", "--listing", "-", "0"], &listing);
@@ -149,6 +150,46 @@ fn listings_are_written_and_taken() {
         drawn.stdout,
         run(&["draw", &example("while-false")], b"").stdout
     );
+}
+
+#[test]
+fn nodes_stand_beside_instructions_on_request() {
+    let file = example("while-false");
+    let staged = "\
+code 4 10
+0 20 0 10 0 0 0 0000000000000000  While at 10
+3 14 0 0 0 0 0 0000000000000000  While at 10 > Const at 15
+4 1F 0 6 0 0 0 0000000000000000  While at 10 > Break at 26
+7 1F 0 -7 0 0 0 0000000000000000  While at 10
+";
+    let ran = run(&["stage", "--nodes", &file], b"");
+    assert_eq!((ran.status, ran.text()), (0, staged));
+    let labelled = "\
+labelled 4 10
+0 20 0 1 0 0 0 0000000000000000  While at 10
+3 14 0 0 0 0 0 0000000000000000  While at 10 > Const at 15
+4 1F 0 1 0 0 0 0000000000000000  While at 10 > Break at 26
+7 1F 0 0 0 0 0 0000000000000000  While at 10
+labels 2
+0
+10
+";
+    let ran = run(&["labelled", "--nodes", &file], b"");
+    assert_eq!((ran.status, ran.text()), (0, labelled));
+    let ran = run(&["view", "--nodes", &file, "2"], b"");
+    assert_eq!(
+        (ran.status, ran.text().lines().next()),
+        (0, staged.lines().nth(3))
+    );
+    let drawn = "\
+╭─┬─>  0  JumpIfFalse     +10 → 10  While at 10
+│ │    3  FalseConst                While at 10 > Const at 15
+├─┼──  4  Jump            +6 → 10   While at 10 > Break at 26
+│ ╰──  7  Jump            -7 → 0    While at 10
+╰───> 10  end
+";
+    let ran = run(&["draw", "--nodes", &file], b"");
+    assert_eq!((ran.status, ran.text()), (0, drawn));
 }
 
 #[test]
@@ -169,7 +210,7 @@ fn draw_has_arrows() {
 #[test]
 fn wrong_usage_and_files() {
     let file = example("while-false");
-    let wrong: [&[&str]; 11] = [
+    let wrong: [&[&str]; 14] = [
         &[],
         &["stage"],
         &["view", &file],
@@ -181,6 +222,9 @@ fn wrong_usage_and_files() {
         &["check", "--bytes", &file],
         &["stage", "--ascii", &file],
         &["draw", &file, "--columns"],
+        &["check", "--nodes", &file],
+        &["stage", "--nodes", "--bytes", &file],
+        &["draw", "--nodes", "--listing", &file],
     ];
     for words in wrong {
         let ran = run(words, b"");
@@ -201,7 +245,7 @@ fn help_names_every_command() {
     let ran = run(&["--help"], b"");
     assert_eq!(ran.status, 0);
     for word in [
-        "stage", "labelled", "check", "view", "draw", "--hex", "--raw",
+        "stage", "labelled", "check", "view", "draw", "--hex", "--raw", "--nodes",
     ] {
         assert!(ran.text().contains(word));
     }

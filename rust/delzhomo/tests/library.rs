@@ -3,12 +3,13 @@
 mod common;
 
 use common::{
-    WHILE_FALSE_CODE, call, every_stmt, listing_of, nested_blocks, recorded, script, text_of,
+    WHILE_FALSE_CODE, WHILE_FALSE_NODES, call, every_stmt, listing_of, listing_with, nested_blocks,
+    recorded, script, text_of,
 };
 use delzhomo::tree::*;
 use delzhomo::{
     Assembler, Label, Listing, Place, Refusal, Tag, Totals, Unit, check, listing_length,
-    lower_into, measure, resolve_into, view,
+    lower_into, measure, path_text, resolve_into, view,
 };
 
 fn refusal(number: usize, place: usize, extra: usize) -> Refusal {
@@ -138,6 +139,64 @@ fn a_listing_is_typed() {
         Listing::from_bytes(&bytes).unwrap().to_string(),
         WHILE_FALSE_CODE
     );
+}
+
+/// The tag and the path of the node of each instruction.
+fn emitted(unit: &Unit) -> Vec<(Tag, String)> {
+    let mut assembler = Assembler::new();
+    let listing = assembler.assemble(unit).unwrap();
+    let nodes = unit.nodes();
+    let path = |place| path_text(&nodes.path(place));
+    listing
+        .iter()
+        .map(|each| (each.tag, path(each.node as usize)))
+        .collect()
+}
+
+#[test]
+fn instructions_have_the_node_that_emitted_them() {
+    let expected = [
+        (Tag::JumpIfFalse, "While at 10"),
+        (Tag::FalseConst, "While at 10 > Const at 15"),
+        (Tag::Jump, "While at 10 > Break at 26"),
+        (Tag::Jump, "While at 10"),
+    ];
+    let expected = expected.map(|(tag, path)| (tag, path.to_string()));
+    assert_eq!(emitted(&while_false()), expected);
+    // "for a case's SwitchLabel that is the Switch statement, for a Skip the call"
+    let of = |name: &str, tag: Tag| {
+        let all = emitted(&example(name)).into_iter();
+        let found = all.filter(|each| each.0 == tag).map(|each| each.1);
+        found.collect::<Vec<_>>()
+    };
+    let labels = of("switch-mid-default", Tag::SwitchLabel);
+    assert_eq!(labels, ["Switch at 10"; 2]);
+    let skips = of("call", Tag::Skip);
+    assert_eq!(skips, ["Expr at 10 > InstanceCall at 15"]);
+    // the Nops of absent parameters are the call's too
+    assert_eq!(of("call", Tag::Nop), ["Expr at 10 > InstanceCall at 15"; 2]);
+}
+
+#[test]
+fn every_instruction_of_the_recorded_units_has_a_node() {
+    let mut assembler = Assembler::new();
+    let mut count = 0;
+    for recorded in recorded("trial/recorded.txt") {
+        let unit = Unit::from(recorded.unit);
+        let Ok(lowered) = assembler.lower(&unit) else {
+            continue;
+        };
+        let labelled: Vec<u32> = lowered.iter().map(|each| each.node).collect();
+        let nodes = unit.nodes();
+        for &place in &labelled {
+            let last = nodes.path(place as usize).last().map(|step| step.offset);
+            assert_eq!(last, Some(place as usize), "{}", recorded.name);
+            count += 1;
+        }
+        let resolved = assembler.assemble(&unit).unwrap();
+        assert!(resolved.iter().map(|each| each.node).eq(labelled));
+    }
+    assert!(count > 10_000, "{count}");
 }
 
 #[test]
@@ -323,7 +382,8 @@ fn what_is_behind_stays_as_it_was() {
     assert_eq!(marks, [0, 10, 0xA5A5_A5A5, 0xA5A5_A5A5, 0xA5A5_A5A5]);
     let mut resolved = vec![0x5A; length + 30];
     assert_eq!(resolve_into(&out[..length], &marks, &mut resolved), Ok(4));
-    assert_eq!(resolved[..length], listing_of(WHILE_FALSE_CODE));
+    let expected = listing_with(WHILE_FALSE_CODE, &WHILE_FALSE_NODES);
+    assert_eq!(resolved[..length], expected);
     assert!(resolved[length..].iter().all(|&byte| byte == 0x5A));
 }
 
@@ -388,6 +448,9 @@ fn listings_are_checked_and_seen() {
         assert_eq!(view(&listing[..end], 0), Err(refusal(30, 0, 0)));
         assert!(Listing::from_bytes(&listing[..end]).is_err());
     }
+    // any node
+    let listing_with_nodes = listing_with(WHILE_FALSE_CODE, &[u32::MAX; 4]);
+    assert_eq!(check(&listing_with_nodes), Ok(4));
     // an unused field that is not 0, and a tag that is not emitted
     for (at, value) in [(6, 1), (5, 0x15)] {
         let mut damaged = listing.clone();

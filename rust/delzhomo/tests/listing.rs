@@ -2,7 +2,7 @@
 
 mod common;
 
-use common::{WHILE_FALSE_CODE, listing_of, recorded};
+use common::{WHILE_FALSE_CODE, WHILE_FALSE_NODES, listing_of, listing_with, recorded};
 use delzhomo::{Listing, Tag};
 
 #[test]
@@ -19,6 +19,19 @@ fn example_a_is_typed() {
     assert_eq!((all[3].index, all[3].start, all[3].end()), (3, 7, 10));
     assert_eq!(all[1].second_target(), None);
     assert_eq!(listing.to_string(), WHILE_FALSE_CODE);
+}
+
+#[test]
+fn the_node_is_the_last_field_and_is_not_printed() {
+    let bytes = listing_with(WHILE_FALSE_CODE, &WHILE_FALSE_NODES);
+    assert_eq!(bytes[23..27], [0, 0, 0, 10]);
+    let listing = Listing::as_far_as_good(&bytes);
+    let nodes: Vec<u32> = listing.iter().map(|each| each.node).collect();
+    assert_eq!(nodes, WHILE_FALSE_NODES);
+    assert_eq!(listing.to_string(), WHILE_FALSE_CODE);
+    let largest = listing_with(WHILE_FALSE_CODE, &[u32::MAX]);
+    let first = Listing::as_far_as_good(&largest).iter().next().unwrap();
+    assert_eq!(first.node, u32::MAX);
 }
 
 #[test]
@@ -46,12 +59,12 @@ fn damaged_listings_end_before_the_damage() {
     let whole = listing_of(WHILE_FALSE_CODE);
     for end in 0..=whole.len() {
         let listing = Listing::as_far_as_good(&whole[..end]);
-        let records = end.saturating_sub(5) / 18;
+        let records = end.saturating_sub(5) / 22;
         assert_eq!(listing.len(), records);
         assert_eq!(listing.iter().count(), records);
         assert_eq!(listing.iter().len(), records);
     }
     let mut bytes = whole;
-    bytes[5 + 18 * 2] = 0x15;
+    bytes[5 + 22 * 2] = 0x15;
     assert_eq!(Listing::as_far_as_good(&bytes).size(), 4);
 }

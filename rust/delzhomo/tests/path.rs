@@ -28,6 +28,26 @@ fn every_node_is_found() {
 }
 
 #[test]
+fn all_nodes_at_once_have_the_same_paths() {
+    let unit = script(every_stmt()).encode().unwrap();
+    let nodes = unit.nodes();
+    let places: Vec<usize> = nodes.iter().map(|step| step.offset).collect();
+    let strict = read_strictly(unit.bytes());
+    assert_eq!(nodes.len(), strict.len());
+    assert!(places.is_sorted());
+    for place in 0..unit.bytes().len() {
+        let path = nodes.path(place);
+        match places.binary_search(&place) {
+            Ok(_) => assert_eq!(path, unit.path(place)),
+            Err(_) => assert_eq!(path, []),
+        }
+    }
+    assert!(Unit::from_bytes([]).nodes().is_empty());
+    // nodes that are too deep are not gone into
+    assert_eq!(Unit::from_bytes(nested_blocks(300)).nodes().len(), 200);
+}
+
+#[test]
 fn every_byte_has_the_innermost_node_around_it() {
     let unit = script(every_stmt()).encode().unwrap();
     let nodes = read_strictly(unit.bytes());
@@ -160,6 +180,7 @@ fn damage_never_panics() {
         for place in [0, end / 2, end, end + 1] {
             assert!(unit.path(place).len() <= 201);
         }
+        assert!(unit.nodes().len() <= end / 5);
     }
     let mut bytes = whole.clone();
     for at in 0..whole.len() {

@@ -19,7 +19,7 @@ use timing::{Work, least};
 const SIZES: [usize; 3] = [1 << 10, 1 << 16, 1 << 20];
 
 /// The bytes of a record.
-const RECORD: usize = 18;
+const RECORD: usize = 22;
 
 const HELP: &str = "\
 usage: bench [ROUNDS] [SHAPE]

@@ -8,7 +8,11 @@ use crate::lent::Lent;
 use crate::published::{self, Made};
 
 const FRONT: usize = 5;
-const RECORD: usize = 18;
+const RECORD: usize = 22;
+
+/// Where a record's last field begins, the node that emitted it. The published assembler has no such field: of a lowered listing it is
+/// left out.
+const NODE: usize = 18;
 
 /// What is lent beyond what a unit takes.
 const SPARE_BYTES: usize = 40;
@@ -104,7 +108,7 @@ impl Library {
         let listing = self.listing.lend(length + bytes);
         let marks = self.marks.lend(labels + words);
         same("lower", lower_into(unit, listing, marks), Ok(made.totals))?;
-        same_listing("lower", self.listing.first(length), &made.listing)?;
+        same_listing("lower", self.listing.first(length), &made.listing, NODE)?;
         same_marks(self.marks.first(labels), &made.marks)?;
         self.kept_lowered("lower", length, labels)
     }
@@ -127,7 +131,8 @@ impl Library {
         let code = self.code.lend(expected.len() + bytes);
         let found = resolve_into(&made.listing, &made.marks, code);
         same("resolve", found, Ok(made.totals.records))?;
-        same_listing("resolve", self.code.first(expected.len()), expected)?;
+        let code = self.code.first(expected.len());
+        same_listing("resolve", code, expected, RECORD)?;
         self.kept_code("resolve", expected.len())
     }
 
@@ -191,19 +196,40 @@ fn stopped_outcome(stop: Stop) -> Outcome {
     }
 }
 
-/// The bytes of two listings of the same length; of a difference the first record is told.
-fn same_listing(asked: &'static str, library: &[u8], published: &[u8]) -> Compared<()> {
-    if library == published {
+/// The bytes of two listings of the same length, of each record so many; of a difference the first record is told.
+fn same_listing(
+    asked: &'static str,
+    library: &[u8],
+    published: &[u8],
+    compared: usize,
+) -> Compared<()> {
+    let Some(record) = first_difference(library, published, compared) else {
         return Ok(());
-    }
-    let pairs = library.iter().zip(published);
-    let at = pairs.take_while(|(a, b)| a == b).count();
-    let record = at.checked_sub(FRONT).map(|rest| rest / RECORD);
+    };
     Err(Difference {
         asked,
         library: record_text(library, record),
         published: record_text(published, record),
     })
+}
+
+/// Whether two listings are the same but for the nodes of their records.
+pub(crate) fn same_but_for_nodes(library: &[u8], published: &[u8]) -> bool {
+    library.len() == published.len() && first_difference(library, published, NODE).is_none()
+}
+
+/// The first record that differs in its first so many bytes, or the front.
+fn first_difference(library: &[u8], published: &[u8], compared: usize) -> Option<Option<usize>> {
+    let (front, records) = library.split_at(FRONT);
+    let (other_front, others) = published.split_at(FRONT);
+    if front != other_front {
+        return Some(None);
+    }
+    let mut pairs = records
+        .chunks_exact(RECORD)
+        .zip(others.chunks_exact(RECORD));
+    let differs = |(a, b): (&[u8], &[u8])| a[..compared] != b[..compared];
+    pairs.position(differs).map(Some)
 }
 
 /// A record's fields in hexadecimal, or the front.
@@ -216,7 +242,16 @@ fn record_text(listing: &[u8], record: Option<usize>) -> String {
         let digits = bytes[from..to].iter().map(|byte| format!("{byte:02X}"));
         digits.collect()
     };
-    let fields = [(0, 1), (1, 2), (2, 4), (4, 6), (6, 8), (8, 10), (10, 18)];
+    let fields = [
+        (0, 1),
+        (1, 2),
+        (2, 4),
+        (4, 6),
+        (6, 8),
+        (8, 10),
+        (10, 18),
+        (18, 22),
+    ];
     let fields = fields.map(|(from, to)| field(from, to));
     format!("record {number} is {}", fields.join(" "))
 }

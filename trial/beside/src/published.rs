@@ -63,8 +63,17 @@ fn listing(count: usize, records: impl Iterator<Item = Record>) -> Vec<u8> {
     let mut listing = Vec::with_capacity(length);
     listing.push(VERSION);
     listing.extend(((length - FRONT) as u32).to_be_bytes());
-    records.for_each(|record| push(&mut listing, &record));
+    for (number, record) in records.enumerate() {
+        push(&mut listing, &record);
+        listing.extend(node(number).to_be_bytes());
+    }
     listing
+}
+
+/// The published assembler says nothing of the node that emitted a record. Each record is given another number, so that it shows if
+/// resolving does not hand it on.
+fn node(number: usize) -> u32 {
+    (number as u32).wrapping_mul(0x9E37_79B9)
 }
 
 /// A field that has more bits than its place would be a fault of the oracle's.

@@ -2,7 +2,7 @@
 
 use delzhomo::{Assembler, Refusal, check, listing_length, lower_into, resolve_into, view};
 
-use crate::compare::Library;
+use crate::compare::{Library, same_but_for_nodes};
 use crate::difference::{Compared, holds, refusal, same};
 use crate::published::Made;
 
@@ -79,13 +79,13 @@ fn compare_views(made: &Made) -> Compared<()> {
 /// What the crate gives from its own buffers.
 fn compare_assembler(assembler: &mut Assembler, unit: &[u8], made: &Made) -> Compared<()> {
     let is_same = assembler.lower(unit).is_ok_and(|lowered| {
-        lowered.bytes() == made.listing
+        same_but_for_nodes(lowered.bytes(), &made.listing)
             && lowered.labels() == made.marks
             && lowered.size() as usize == made.totals.size
     });
     holds("Assembler::lower", is_same, "it gives the same")?;
     let is_same = match (assembler.assemble(unit), &made.resolved) {
-        (Ok(code), Ok(expected)) => code.bytes() == expected,
+        (Ok(code), Ok(expected)) => same_but_for_nodes(code.bytes(), expected),
         (Err(found), Err(expected)) => found == refusal(*expected),
         _ => false,
     };

@@ -4,9 +4,12 @@ use std::ffi::OsString;
 use std::fmt::Write as _;
 use std::fs;
 use std::io::{self, Read, Write};
+use std::iter;
 use std::process::ExitCode;
 
-use delzhomo::{Assembler, Instruction, Listing, Place, Refusal, Unit, check, measure, view};
+use delzhomo::{
+    Assembler, Instruction, Listing, Nodes, Place, Refusal, Unit, check, measure, path_text, view,
+};
 
 const HELP: &str = "\
 usage: delzhomo COMMAND FILE [OPTION..]
@@ -22,6 +25,7 @@ Assembles script units. FILE is a unit, as raw bytes or in commented hexadecimal
   --hex, --raw    FILE is hexadecimal, or raw bytes (else its content decides)
   --listing       check, view, draw: FILE is a listing with distances, not a unit
   --bytes         stage, labelled: write the listing itself
+  --nodes         all but check, of a unit: beside each instruction the nodes down to the one that emitted it
   --ascii         draw: no box characters
   --columns N     draw: at most N columns of arrows
   --help          this text
@@ -87,7 +91,7 @@ fn run(out: &mut Vec<u8>) -> Outcome {
     let bytes = decode(read(&request.file)?, &request)?;
     let mut assembler = Assembler::new();
     if request.listing {
-        return on_listing(&request, Listing::from_bytes(&bytes)?, out);
+        return on_listing(&request, Listing::from_bytes(&bytes)?, None, out);
     }
     let unit = Unit::from_bytes(bytes);
     on_unit(&request, &unit, &mut assembler, out).map_err(|failure| explain(failure, &unit))
@@ -99,14 +103,18 @@ fn on_unit(
     assembler: &mut Assembler,
     out: &mut Vec<u8>,
 ) -> Outcome {
+    let nodes = request.nodes.then(|| unit.nodes());
+    let nodes = nodes.as_ref();
     match request.command {
         Command::Labelled => {
             let labelled = assembler.lower(unit)?;
-            put(request, labelled.bytes(), &labelled, out);
+            let text = with_paths(&labelled, labelled.iter().map(|each| each.node), nodes);
+            put(request, labelled.bytes(), &text, out);
         }
         Command::Stage => {
             let listing = assembler.assemble(unit)?;
-            put(request, listing.bytes(), &listing, out);
+            let text = with_paths(&listing, listing.iter().map(|each| each.node), nodes);
+            put(request, listing.bytes(), &text, out);
         }
         Command::Check => {
             assembler.assemble(unit)?;
@@ -119,17 +127,26 @@ fn on_unit(
                 .as_bytes(),
             );
         }
-        Command::View | Command::Draw => on_listing(request, assembler.assemble(unit)?, out)?,
+        Command::View | Command::Draw => {
+            on_listing(request, assembler.assemble(unit)?, nodes, out)?;
+        }
     }
     Ok(())
 }
 
-fn on_listing(request: &Request, listing: Listing<'_>, out: &mut Vec<u8>) -> Outcome {
+/// With the nodes of the unit that the listing was made from, if paths are asked for.
+fn on_listing(
+    request: &Request,
+    listing: Listing<'_>,
+    nodes: Option<&Nodes>,
+    out: &mut Vec<u8>,
+) -> Outcome {
     let text = match request.command {
         Command::Check => format!("records {}\n", check(listing.bytes())?),
-        Command::View => record(listing, request.number)?,
+        Command::View => record(listing, request.number, nodes)?,
         Command::Draw => {
             let drawing = listing.draw().ascii(request.ascii);
+            let drawing = nodes.map_or(drawing, |nodes| drawing.nodes(nodes));
             let columns = request.columns;
             columns
                 .map_or(drawing, |columns| drawing.columns(columns))
@@ -143,19 +160,50 @@ fn on_listing(request: &Request, listing: Listing<'_>, out: &mut Vec<u8>) -> Out
     Ok(())
 }
 
-fn put(request: &Request, bytes: &[u8], text: &impl ToString, out: &mut Vec<u8>) {
-    if request.bytes {
-        out.extend_from_slice(bytes);
+fn put(request: &Request, bytes: &[u8], text: &str, out: &mut Vec<u8>) {
+    let content = if request.bytes {
+        bytes
     } else {
-        out.extend_from_slice(text.to_string().as_bytes());
-    }
+        text.as_bytes()
+    };
+    out.extend_from_slice(content);
+}
+
+/// A listing as it is printed: a heading, a line an instruction, the label table if it has one. Where paths are asked for, that to an
+/// instruction's node stands behind its line.
+fn with_paths(
+    listing: &impl ToString,
+    places: impl Iterator<Item = u32>,
+    nodes: Option<&Nodes>,
+) -> String {
+    let text = listing.to_string();
+    let Some(nodes) = nodes else {
+        return text;
+    };
+    let places = iter::once(None)
+        .chain(places.map(Some))
+        .chain(iter::repeat(None));
+    let lines = text.lines().zip(places).map(|(line, place)| match place {
+        Some(place) => beside(line, place, nodes),
+        None => format!("{line}\n"),
+    });
+    lines.collect()
+}
+
+/// A line with the path to a node behind it.
+fn beside(line: &str, place: u32, nodes: &Nodes) -> String {
+    let path = nodes.path(place as usize);
+    format!("{line}  {}\n", path_text(&path))
 }
 
 /// The line of a record. The library decides whether there is such a record.
-fn record(listing: Listing<'_>, number: usize) -> Outcome<String> {
+fn record(listing: Listing<'_>, number: usize, nodes: Option<&Nodes>) -> Outcome<String> {
     view(listing.bytes(), number)?;
     let found: Option<Instruction> = listing.iter().nth(number);
-    Ok(found.map_or(String::new(), |record| format!("{record}\n")))
+    Ok(found.map_or(String::new(), |record| match nodes {
+        Some(nodes) => beside(&record.to_string(), record.node, nodes),
+        None => format!("{record}\n"),
+    }))
 }
 
 /// Adds to a refusal what the unit shows of its place: the nodes down to it, or the instruction.
@@ -165,20 +213,23 @@ fn explain(failure: Failure, unit: &Unit) -> Failure {
     };
     match refusal.place() {
         Place::Unit(place) => {
-            let path: Vec<String> = unit.path(place).iter().map(ToString::to_string).collect();
+            let path = unit.path(place);
             if !path.is_empty() {
                 // writing to a String does not fail
-                let _ = write!(said, "\n  path: {}", path.join(" > "));
+                let _ = write!(said, "\n  path: {}", path_text(&path));
             }
         }
         Place::Record(number) => {
             let mut assembler = Assembler::new();
             let lowered = assembler.lower(unit).ok();
             if let Some(found) = lowered.and_then(|lowered| lowered.iter().nth(number)) {
+                let path = unit.path(found.node as usize);
                 let _ = write!(
                     said,
-                    "\n  record {number}: {} at {}",
-                    found.tag, found.start
+                    "\n  record {number}: {} at {}\n  path: {}",
+                    found.tag,
+                    found.start,
+                    path_text(&path)
                 );
             }
         }
@@ -225,6 +276,7 @@ struct Request {
     form: Form,
     listing: bool,
     bytes: bool,
+    nodes: bool,
     ascii: bool,
     columns: Option<usize>,
 }
@@ -256,6 +308,7 @@ impl Request {
             form: options.form.unwrap_or(Form::ByContent),
             listing: options.listing,
             bytes: options.bytes,
+            nodes: options.nodes,
             ascii: options.ascii,
             columns: options.columns,
         }))
@@ -269,6 +322,7 @@ struct Options {
     form: Option<Form>,
     listing: bool,
     bytes: bool,
+    nodes: bool,
     ascii: bool,
     columns: Option<usize>,
 }
@@ -283,6 +337,7 @@ impl Options {
                 "--raw" => self.form = Some(Form::Raw),
                 "--listing" => self.listing = true,
                 "--bytes" => self.bytes = true,
+                "--nodes" => self.nodes = true,
                 "--ascii" => self.ascii = true,
                 "--columns" => {
                     let count = words.next().ok_or_else(|| missing("N of --columns"))?;
@@ -305,9 +360,12 @@ impl Options {
     fn fits(&self, command: Command) -> Outcome {
         let prints = matches!(command, Command::Stage | Command::Labelled);
         let draws = command == Command::Draw;
+        // the nodes are the unit's, and a listing itself has no line to put them beside
+        let has_lines = command != Command::Check && !self.listing && !self.bytes;
         let misplaced = [
             ("--bytes", self.bytes && !prints),
             ("--listing", self.listing && prints),
+            ("--nodes", self.nodes && !has_lines),
             ("--ascii", self.ascii && !draws),
             ("--columns", self.columns.is_some() && !draws),
         ];

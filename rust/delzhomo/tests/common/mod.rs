@@ -36,6 +36,9 @@ pub fn hex(digits: &str) -> Vec<u8> {
 pub const WHILE_FALSE: &str =
     "01 0000001A 00 00000015 00000011 03 00000003 02 0F 00 00000005 00000001 08";
 
+/// The node of each of its instructions: the While, its condition, the Break, the While.
+pub const WHILE_FALSE_NODES: [u32; 4] = [10, 15, 26, 10];
+
 pub const WHILE_FALSE_CODE: &str = "\
 code 4 10
 0 20 0 10 0 0 0 0000000000000000
@@ -85,14 +88,21 @@ pub fn recorded(path: &str) -> Vec<Recorded> {
 
 /// The listing that a printed one stands for.
 pub fn listing_of(code: &str) -> Vec<u8> {
+    listing_with(code, &[])
+}
+
+/// The same with these nodes, which a text does not have; 0 where there is none.
+pub fn listing_with(code: &str, nodes: &[u32]) -> Vec<u8> {
     let mut records = Vec::new();
-    for line in code.lines().skip(1) {
+    for (index, line) in code.lines().skip(1).enumerate() {
         let words: Vec<&str> = line.split(' ').collect();
         let number = |at: usize| words[at].parse::<i32>().unwrap();
         records.push(u8::from_str_radix(words[1], 16).unwrap());
         records.push(number(2) as u8);
         (3..7).for_each(|at| records.extend((number(at) as u16).to_be_bytes()));
         records.extend(u64::from_str_radix(words[7], 16).unwrap().to_be_bytes());
+        let node = nodes.get(index).copied().unwrap_or_default();
+        records.extend(node.to_be_bytes());
     }
     let mut listing = vec![1];
     listing.extend((records.len() as u32).to_be_bytes());
