@@ -1,7 +1,9 @@
 -- Worked examples, computed: document 01's (a) to (i), then rows that show a decision each. Other cases are run by a program.
 use Prim.Native.Nat.{ℕ, zero, suc}
 use mathlib.Core.Path.{_≡_, refl}
+use mathlib.Core.Bool.{Bool, true, false, cond, _&&_}
 use mathlib.Core.List.{List, [], _∷_, _++_, map}
+use lib.Dec.{eqb}
 use lib.ListN.{length}
 use lib.IntN.{ℤ, pos, negℤ}
 use Rattle.definitions.specs.Answer.{Result, made, refusal, bind, onward, checked}
@@ -15,6 +17,7 @@ use Rattle.definitions.specs.Lower.{require, isPrvalue, onePrvalue, isFl
 use Rattle.definitions.specs.Listing.{recordsBytes, listingBytes, countOf, listingFront, recordsFrom, allGood, readListing, view}
 use Rattle.definitions.specs.Resolve.{inRange, word, signed, distanceOf, resolveField, resolveRecord, resolveRecords, resolve}
 use Rattle.definitions.specs.Stage.{Line, Printed, code, refusedWith, lowered, labelled, lowerInto, stage, linesFrom, totalSize, printed, shown}
+use Rattle.definitions.specs.Strip.{exprParts, stmtParts, partsOf, keep, blank, keepMarks, least, blankPayload, keepLength, stripItems, stripRun, stripParts, stripKind, stripNode, stripExpr, stripStmt, strip, stripInto}
 use Rattle.definitions.specs.Text.{letters, digit, digits, placesIn, decimal, hexadecimal, integer, fields, lineText, linesText, text}
 
 -- 1. Questions and replies
@@ -31,6 +34,10 @@ pub data Question : Type 0 where
   -- a listing and a label table resolved into so many bytes; the viewer's record n
   resolveOf : (listing marks : List ℕ) → (space : ℕ) → Question
   viewOf : (listing : List ℕ) → (n : ℕ) → Question
+  -- a unit stripped; whether two units are equal but for what may differ; the room that a stripped unit needs
+  stripOf : (unit : List ℕ) → Question
+  pairOf : (unit unit′ : List ℕ) → Question
+  stripRoomOf : (unit : List ℕ) → (bytes : ℕ) → Question
 
 -- a record's tag and its node
 pub record Origin : Type 0 where
@@ -44,6 +51,10 @@ pub data Reply : Type 0 where
   origins : List Origin → Reply
   fits : (count labels : ℕ) → Reply
   part : List ℕ → Reply
+  -- the same bytes; other bytes that strip to the same; bytes that strip to others
+  equal : Reply
+  alike : Reply
+  unlike : Reply
   refuses : (number place extra : ℕ) → Reply
 
 replyOf : {A : Type 0} → (A → Reply) → Result A → Reply
@@ -54,6 +65,12 @@ replyPrinted : Printed → Reply
 replyPrinted (code n t ls) = prints n t ls
 replyPrinted (refusedWith n p x) = refuses n p x
 
+sameBytes : List ℕ → List ℕ → Bool
+sameBytes [] [] = true
+sameBytes [] (y ∷ ys) = false
+sameBytes (x ∷ xs) [] = false
+sameBytes (x ∷ xs) (y ∷ ys) = eqb x y && sameBytes xs ys
+
 pub answer : Question → Reply
 answer (stageOf s) = replyPrinted (printed (stage s))
 answer (textOf s) = says (text (printed (stage s)))
@@ -62,6 +79,9 @@ answer (originsOf s) = replyOf (λ is. origins (map (λ i. record { tag = i .tag
 answer (roomOf s b w) = replyOf (λ l. fits (length (l .instrs)) (length (l .marks))) (lowerInto s b w)
 answer (resolveOf s m b) = replyPrinted (printed (resolve s m b))
 answer (viewOf s n) = replyOf part (view s n)
+answer (stripOf s) = part (strip s)
+answer (pairOf s t) = cond (sameBytes s t) equal (cond (sameBytes (strip s) (strip t)) alike unlike)
+answer (stripRoomOf s b) = replyOf part (stripInto s b)
 
 -- 2. Short forms
 
@@ -131,6 +151,24 @@ freeCallOf n args = nodeOf 13 (callOf n args)
 -- an instance call with so many parameters
 instanceCallOf : (params : ℕ) → (receiver args : List ℕ) → List ℕ
 instanceCallOf n e args = nodeOf 15 (0 ∷ (e ++ callOf n args))
+
+-- units of one node, for a field that is to be looked at: an expression of a kind, a constant, a closure call with no argument, a statement of a kind
+unitWith : (kind : ℕ) → List ℕ → List ℕ
+unitWith k s = unitOf (expression (nodeOf k s))
+
+constUnit : (byte width value : ℕ) → List ℕ
+constUnit b w v = unitWith 2 (b ∷ bytes w v)
+
+-- a free call: function, name, line, flag byte and one mark
+callUnit : (function name line flags mark : ℕ) → List ℕ
+callUnit f n l b m = unitWith 13 (bytes 4 f ++ (bytes 4 n ++ (bytes 2 l ++ (b ∷ 1 ∷ m ∷ runOf []))))
+
+closureUnit : (name line : ℕ) → List ℕ
+closureUnit n l = unitWith 16 (nopNodes 1 ++ (bytes 4 n ++ (bytes 2 l ++ runOf [])))
+
+-- a Switch with one case and a default
+switchUnit : (type defaultIndex : ℕ) → List ℕ
+switchUnit t i = unitOf (nodeOf 5 (bytes 4 t ++ (nopNodes 1 ++ (bytes 4 i ++ (1 ∷ (runOf (nopNodes 1 ++ runOf []) ++ runOf []))))))
 
 -- a listing of one record
 listingOf : (tag first value node : ℕ) → List ℕ
@@ -338,12 +376,72 @@ table =
     ∷ example (resolveOf (listingOf Jump 0 0 0) (32768 ∷ []) 27) (refuses 32 0 0)
     -- a byte too few
     ∷ example (resolveOf (listingOf Jump 0 0 0) (32767 ∷ []) 26) (refuses 20 0 0)
+    -- stripped units
+    -- a static call with a free call as argument: functions, names and lines go; flags, counts, marks and lengths stay
+    ∷ example (stripOf (bytes 65 0x010000003C000000003700000033010000002E0E00000001000000020003000200010000001B0000000101000000120D0000000100000002000301010000000000))
+    (part (bytes 65 0x010000003C000000003700000033010000002E0E00000000000000000000000200010000001B0000000101000000120D0000000000000000000001010000000000))
+    -- constants: I32 0, 1, 2 to 0, 0, 2
+    ∷ example (stripOf (bytes 55 0x0100000032000000002D0000000B01000000060209000000000000000B01000000060209000000010000000B0100000006020900000002))
+    (part (bytes 55 0x0100000032000000002D0000000B01000000060209000000000000000B01000000060209000000000000000B0100000006020900000002))
+    -- (d) a Switch in a loop: its type goes, default_index stays
+    ∷ example (stripOf (bytes 61 0x010000003800000000330000002F03000000010100000025000000210500000009000000010100000007000000000E0000000101000000050000000109))
+    (part (bytes 61 0x010000003800000000330000002F03000000010100000025000000210500000000000000010100000007000000000E0000000101000000050000000109))
+    -- reading is refused at the second statement: what was passed before is blanked, and all bytes from there on stay
+    ∷ example (stripOf (unitOf (expression (nodeOf 4 (bytes 4 7)) ++ nodeOf 11 (bytes 4 7)))) (part (unitOf (expression (nodeOf 4 (bytes 4 0)) ++ nodeOf 11 (bytes 4 7))))
+    -- a Bool of 3 is passed, so it becomes the 2 of its class, and refused then: the next statement stays
+    ∷ example (stripOf (unitOf (expression (nodeOf 2 (15 ∷ 3 ∷ [])) ++ expression (nodeOf 4 (bytes 4 7)))))
+    (part (unitOf (expression (nodeOf 2 (15 ∷ 2 ∷ [])) ++ expression (nodeOf 4 (bytes 4 7)))))
+    -- a front that is not good: nothing is read, so nothing is blanked
+    ∷ example (stripOf (2 ∷ runOf (0 ∷ runOf (expression (nodeOf 4 (bytes 4 7)))))) (part (2 ∷ runOf (0 ∷ runOf (expression (nodeOf 4 (bytes 4 7))))))
+    -- as much room as the unit; a unit that reading refuses is no refusal
+    ∷ example (stripRoomOf (bytes 15 0x010000000A00000000050000000108) 14) (refuses 20 0 0)
+    ∷ example (stripRoomOf (bytes 15 0x010000000A00000000050000000108) 15) (part (bytes 15 0x010000000A00000000050000000108))
+    ∷ example (stripRoomOf (bytes 3 0x010000) 3) (part (bytes 3 0x010000))
+    -- alike, field by field: class of NewInstance, of Construct and of DynCast
+    ∷ example (pairOf (unitWith 4 (bytes 4 7)) (unitWith 4 (bytes 4 9))) alike
+    ∷ example (pairOf (unitWith 5 (bytes 4 7 ++ runOf [])) (unitWith 5 (bytes 4 9 ++ runOf []))) alike
+    ∷ example (pairOf (unitWith 10 (bytes 4 7 ++ (1 ∷ nopNodes 1))) (unitWith 10 (bytes 4 9 ++ (1 ∷ nopNodes 1)))) alike
+    -- a field; the type of Index; a Local; the index of an intrinsic
+    ∷ example (pairOf (unitWith 7 (1 ∷ (bytes 4 7 ++ nopNodes 1))) (unitWith 7 (1 ∷ (bytes 4 9 ++ nopNodes 1)))) alike
+    ∷ example (pairOf (unitWith 8 (1 ∷ (bytes 4 7 ++ nopNodes 2))) (unitWith 8 (1 ∷ (bytes 4 9 ++ nopNodes 2)))) alike
+    ∷ example (pairOf (unitWith 11 (1 ∷ bytes 4 7)) (unitWith 11 (1 ∷ bytes 4 9))) alike
+    ∷ example (pairOf (unitWith 12 (29 ∷ 0 ∷ 1 ∷ (bytes 4 7 ++ runOf (nopNodes 1)))) (unitWith 12 (29 ∷ 0 ∷ 1 ∷ (bytes 4 9 ++ runOf (nopNodes 1))))) alike
+    -- function, name and line of a call; name and line of a closure call
+    ∷ example (pairOf (callUnit 1 2 3 0 1) (callUnit 4 2 3 0 1)) alike
+    ∷ example (pairOf (callUnit 1 2 3 0 1) (callUnit 1 4 3 0 1)) alike
+    ∷ example (pairOf (callUnit 1 2 3 0 1) (callUnit 1 2 4 0 1)) alike
+    ∷ example (pairOf (closureUnit 2 3) (closureUnit 4 3)) alike
+    ∷ example (pairOf (closureUnit 2 3) (closureUnit 2 4)) alike
+    -- the type of a Switch; local and type of InitArray; local and index of InitDefault
+    ∷ example (pairOf (switchUnit 7 0) (switchUnit 9 0)) alike
+    ∷ example (pairOf (unitOf (nodeOf 6 (bytes 4 3 ++ (bytes 4 7 ++ runOf (nopNodes 1))))) (unitOf (nodeOf 6 (bytes 4 4 ++ (bytes 4 9 ++ runOf (nopNodes 1)))))) alike
+    ∷ example (pairOf (unitOf (nodeOf 7 (bytes 4 3 ++ (5 ∷ bytes 4 7)))) (unitOf (nodeOf 7 (bytes 4 4 ++ (5 ∷ bytes 4 9))))) alike
+    -- constants: a Str, an Enum, an F64; an I32 in both of its classes, a Bool in its first
+    ∷ example (pairOf (constUnit 0 4 7) (constUnit 0 4 9)) alike
+    ∷ example (pairOf (constUnit 4 8 0x700000001) (constUnit 4 8 0x900000002)) alike
+    ∷ example (pairOf (constUnit 6 8 0) (constUnit 6 8 0x3FF0000000000000)) alike
+    ∷ example (pairOf (constUnit 9 4 0) (constUnit 9 4 1)) alike
+    ∷ example (pairOf (constUnit 9 4 2) (constUnit 9 4 0xFFFFFFFF)) alike
+    ∷ example (pairOf (constUnit 15 1 0) (constUnit 15 1 1)) alike
+    -- Bools above 1 are all refused alike
+    ∷ example (pairOf (constUnit 15 1 2) (constUnit 15 1 3)) alike
+    -- not alike: an I32 1 for a 2, a Bool 1 for a 2, another default_index, flag byte, mark, default byte, const byte
+    ∷ example (pairOf (constUnit 9 4 1) (constUnit 9 4 2)) unlike
+    ∷ example (pairOf (constUnit 15 1 1) (constUnit 15 1 2)) unlike
+    ∷ example (pairOf (switchUnit 7 0) (switchUnit 7 1)) unlike
+    ∷ example (pairOf (callUnit 1 2 3 0 1) (callUnit 1 2 3 1 1)) unlike
+    ∷ example (pairOf (callUnit 1 2 3 0 1) (callUnit 1 2 3 0 0)) unlike
+    ∷ example (pairOf (unitOf (nodeOf 7 (bytes 4 3 ++ (5 ∷ bytes 4 7)))) (unitOf (nodeOf 7 (bytes 4 3 ++ (6 ∷ bytes 4 7))))) unlike
+    ∷ example (pairOf (constUnit 0 4 7) (constUnit 1 4 7)) unlike
+    -- units that reading refuses: alike in what was passed before, not in what stands behind
+    ∷ example (pairOf (unitOf (expression (nodeOf 4 (bytes 4 7)) ++ (0 ∷ []))) (unitOf (expression (nodeOf 4 (bytes 4 9)) ++ (0 ∷ [])))) alike
+    ∷ example (pairOf (unitOf (nodeOf 11 [] ++ expression (nodeOf 4 (bytes 4 7)))) (unitOf (nodeOf 11 [] ++ expression (nodeOf 4 (bytes 4 9))))) unlike
     ∷ []
 
 -- 4. The theorem: every question of the table has the reply that stands beside it
 
 pub examples : map (λ r. answer (r .question)) table ≡ map (λ r. r .reply) table
-unfolding table answer replyOf replyPrinted runOf nodeOf unitOf expression times nopNodes asRefNode callOf freeCallOf instanceCallOf listingOf bind onward checked number bytes sizes tagSize emitted rows rowOf defaultTags constTags constTag constWidths intrinsics intrinsicOf size recordBytes recordAt unused0 goodRecord exprsOf blockOf branchesOf casesOf lengthExprs lengthCases isPresent placeOf _>>=_ give unknownKind unsigned byteBelow markBytes room span items filling run head ended node pick asNop payload asConst asNull asNewInstance asConstruct asAssign asField asIndex asConditional asDynCast asLocal asIntrinsic callee arguments asFreeCall asStaticCall asInstanceCall asClosureCall exprKinds exprBody parseExpr asExpr asBlock asWhile arm blockIf asBranches asSwitch asInitArray asInitDefault asBreak asContinue returnIf asReturn stmtKinds stmtBody parseStmt frontGood parseUnit many emits unmarked labelLimit step execute require isPrvalue onePrvalue isFlagged flagsOf requireFlags weakToRef nullTag elementTag localTag lowerField lowerArg nops emitInvoke emitCall lowerExpr lowerElements lowerArray primitiveDefault defaultInstrs lowerReturn lowerReturnNothing jumpTo midDefault endsGroup inGroup lowerStmt recordsBytes listingBytes countOf listingFront recordsFrom allGood readListing view inRange word signed distanceOf resolveField resolveRecord resolveRecords resolve lowered lowerInto stage linesFrom totalSize printed letters digit digits placesIn decimal integer fields lineText linesText text
+unfolding table answer replyOf replyPrinted sameBytes unitWith constUnit callUnit closureUnit switchUnit exprParts stmtParts partsOf keep blank keepMarks least blankPayload keepLength stripItems stripRun stripParts stripKind stripNode stripExpr stripStmt strip stripInto runOf nodeOf unitOf expression times nopNodes asRefNode callOf freeCallOf instanceCallOf listingOf bind onward checked number bytes sizes tagSize emitted rows rowOf defaultTags constTags constTag constWidths intrinsics intrinsicOf size recordBytes recordAt unused0 goodRecord exprsOf blockOf branchesOf casesOf lengthExprs lengthCases isPresent placeOf _>>=_ give unknownKind unsigned byteBelow markBytes room span items filling run head ended node pick asNop payload asConst asNull asNewInstance asConstruct asAssign asField asIndex asConditional asDynCast asLocal asIntrinsic callee arguments asFreeCall asStaticCall asInstanceCall asClosureCall exprKinds exprBody parseExpr asExpr asBlock asWhile arm blockIf asBranches asSwitch asInitArray asInitDefault asBreak asContinue returnIf asReturn stmtKinds stmtBody parseStmt frontGood parseUnit many emits unmarked labelLimit step execute require isPrvalue onePrvalue isFlagged flagsOf requireFlags weakToRef nullTag elementTag localTag lowerField lowerArg nops emitInvoke emitCall lowerExpr lowerElements lowerArray primitiveDefault defaultInstrs lowerReturn lowerReturnNothing jumpTo midDefault endsGroup inGroup lowerStmt recordsBytes listingBytes countOf listingFront recordsFrom allGood readListing view inRange word signed distanceOf resolveField resolveRecord resolveRecords resolve lowered lowerInto stage linesFrom totalSize printed letters digit digits placesIn decimal integer fields lineText linesText text
 examples = refl
 
 -- 5. An input that is too long, and numbers as text

@@ -10,5 +10,6 @@ pub mod Lower
 pub mod Listing
 pub mod Resolve
 pub mod Stage
+pub mod Strip
 pub mod Text
 pub mod Examples
