@@ -8,6 +8,7 @@ use Rattle.definitions.specs.Answer.{Result, made, refusal}
 use Rattle.definitions.specs.Instr.{Instr, recordLength}
 use Rattle.definitions.specs.Listing.{listingLength, readListing, view}
 use Rattle.definitions.specs.Stage.{Lowering, Resolving}
+use Rattle.definitions.specs.Strip.{Stripping}
 use Rattle.laws.proofs.Inversion.{refusal-not-made}
 use Rattle.laws.proofs.Results.{made-is}
 use Rattle.instr.specs.Values.{checkedIs, counted, viewedIs}
@@ -23,7 +24,10 @@ use Rattle.assemble.specs.declared.Lowered.the-variants as lowering
 use Rattle.resolve.specs.Values.{resolving}
 use Rattle.resolve.specs.declared.Resolved.{Resolved}
 use Rattle.resolve.specs.declared.Resolved.the-variants as resolution
-use Rattle.exports.specs.Numbers.{Numbers, numbers, measured, lowered, outOf, marksOf, resolved, codeOf, checked, viewed}
+use Rattle.strip.specs.Values.{stripping}
+use Rattle.strip.specs.declared.Stripped.{Stripped}
+use Rattle.strip.specs.declared.Stripped.the-variants as strip
+use Rattle.exports.specs.Numbers.{Numbers, numbers, measured, lowered, outOf, marksOf, resolved, codeOf, checked, viewed, stripped, strippedOf}
 
 pub measured-done : (r : Lowered) (c : Counters) → r ≡ lowering.Done c → numbers true (c .count) (c .labels) (c .offset) ≡ measured (measuring r)
 unfolding measuring measured
@@ -84,3 +88,12 @@ module _ (r : Viewed) (s : List ℕ) (n : ℕ) (e : viewedIs r s n ≡ view s n)
   pub viewed-past : (m : ℕ) → r ≡ look.Past m → numbers false 22 m 0 ≡ viewed n (view s n)
   unfolding viewedIs viewed
   viewed-past m d = ap (viewed n) (rw d at e)
+
+module _ (r : Stripped) (o : List ℕ) (x : Stripping) (e : stripping r o ≡ x) where
+  pub stripped-done : (n : ℕ) → r ≡ strip.Done n → (numbers true n 0 0 ≡ stripped x) × (o ≡ strippedOf x)
+  unfolding stripping stripped strippedOf
+  stripped-done n d = let f = rw d at e in (ap stripped f, ap strippedOf f)
+
+  pub stripped-refused : (q : Refusal) → r ≡ strip.Refused q → (numbers false (q .number) (q .place) (q .extra) ≡ stripped x) × (o ≡ strippedOf x)
+  unfolding stripping stripped strippedOf
+  stripped-refused q d = let f = rw d at e in (ap stripped f, ap strippedOf f)

@@ -7,6 +7,8 @@ use Rattle.definitions.specs.Answer.{Result, made, refusal}
 use Rattle.definitions.specs.Instr.{Instr, recordLength}
 use Rattle.definitions.specs.Listing.{listingLength}
 use Rattle.definitions.specs.Stage.{Measured, Lowering, listed, turned, Resolving, coded, unresolved}
+use Rattle.definitions.specs.Strip.{Stripping, unstripped}
+use Rattle.definitions.specs.Strip as stripping
 
 pub record Numbers : Type 0 where
   pub done : Bool
@@ -52,3 +54,12 @@ checked (refusal n p x) = numbers false n p x
 unfoldable pub viewed : (n : ℕ) → Result (List ℕ) → Numbers
 viewed n (made part) = numbers true (listingLength n) recordLength 0
 viewed n (refusal m p x) = numbers false m p x
+
+-- bytes
+unfoldable pub stripped : Stripping → Numbers
+stripped (stripping.stripped count o) = numbers true count 0 0
+stripped (unstripped n p x o) = numbers false n p x
+
+unfoldable pub strippedOf : Stripping → List ℕ
+strippedOf (stripping.stripped count o) = o
+strippedOf (unstripped n p x o) = o

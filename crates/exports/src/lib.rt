@@ -5,14 +5,16 @@ ghost use lib.ListN.{length};
 ghost use Rattle.definitions.specs.Listing.{readListing, view};
 ghost use Rattle.definitions.specs.Resolve.{resolve};
 ghost use Rattle.definitions.specs.Stage.{measure, lowerInto, lowerTo, resolveTo};
+ghost use Rattle.definitions.specs.Strip.{stripInto, stripTo};
 ghost use Rattle.assemble.specs.Whole.{measuring};
-ghost use Rattle.exports.specs.Numbers.{numbers, measured, lowered, outOf, marksOf, resolved, codeOf, checked, viewed};
+ghost use Rattle.exports.specs.Numbers.{numbers, measured, lowered, outOf, marksOf, resolved, codeOf, checked, viewed, stripped, strippedOf};
 use assemble::Lowered;
 use instr::listings;
 use instr::listings::Checked;
 use instr::listings::Viewed;
 use instr::records::Record;
 use resolve::Resolved;
+use strip::Stripped;
 
 // Writes an answer's three numbers through the pointers, and hands its Bool on.
 fn give(
@@ -135,5 +137,24 @@ pub extern "C" fn delzhomo_view(
         }
         Viewed::Bad => give(false, 30, 0, 0, first, second, third),
         Viewed::Past { number } => give(false, 22, number, 0, first, second, third),
+    }
+}
+
+// The unit without its pool indices, lines and constants: the bytes written.
+#[no_mangle]
+pub extern "C" fn delzhomo_strip(
+    unit: &[u8],
+    out: &mut [u8],
+    first: &mut usize,
+    second: &mut usize,
+    third: &mut usize,
+) -> bool
+    ensures { λ r. ⌜ numbers «r» (now (first .exit)) (now (second .exit)) (now (third .exit)) ≡ stripped (stripTo (stripInto (now (unit .entry)) (length (now (out .entry)))) (now (out .entry))) ⌝ }
+    ensures { λ _. ⌜ now (out .exit) ≡ strippedOf (stripTo (stripInto (now (unit .entry)) (length (now (out .entry)))) (now (out .entry))) ⌝ }
+{
+    let answer = strip::strip(unit, out);
+    match answer {
+        Stripped::Done { count } => give(true, count, 0, 0, first, second, third),
+        Stripped::Refused(q) => give(false, q.number, q.place, q.extra, first, second, third),
     }
 }

@@ -1,21 +1,17 @@
 // The fields of a node, a function for each form. Each starts where the reader stands and leaves it after the field.
 ghost use mathlib.Core.Path.{_≡_};
 ghost use Prim.Native.Nat.{ℕ, _≤_};
-ghost use lib.ListN.{length, getD};
-ghost use Rattle.definitions.specs.Tag.{constWidths};
+ghost use lib.ListN.{length};
 ghost use Rattle.definitions.specs.Read.{unsigned, byteBelow, markBytes, payload, asConst, asInitDefault, callee, span, ended, unknownKind, head};
 ghost use Rattle.ir.specs.Verdict.{after, numberAfter, countedAfter, headed, cursorOf, valueOf, numberOf, paramsOf, closing};
 use super::Head;
 use super::Number;
 use super::Read;
 use super::Refusal;
+use super::expr::CONST_BOOL;
+use super::expr::const_width;
 use instr::numbers::u32_at;
 use instr::numbers::wide;
-
-// The bytes that a constant's value has, by its byte, of which the last is that of Bool.
-const WIDTHS: [usize; 16] = [4, 4, 4, 4, 8, 4, 8, 1, 2, 4, 8, 1, 2, 4, 8, 1];
-
-const CONST_BOOL: usize = 15;
 
 // Where the reader stands after a number.
 pub fn cursor_of(n: Number) -> Read
@@ -145,15 +141,6 @@ fn skip_marks(s: &[u8], from: Read, node: usize, end: usize, n: usize) -> Read
         left -= 1;
     }
     to
-}
-
-fn const_width(byte: usize) -> usize
-    ensures { λ r. ⌜ r ≡ getD constWidths byte 0 ⌝ }
-{
-    if byte < 16 {
-        return WIDTHS[byte];
-    }
-    0
 }
 
 // The payload of a const byte: a mark for Bool (15), else a value of its width.

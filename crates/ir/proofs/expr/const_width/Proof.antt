@@ -2,8 +2,8 @@ use mathlib.Core.Path.{refl}
 use Rattle.definitions.specs.Tag.{constWidths}
 use Rattle.ir.proofs.FieldLaws.{no-width}
 use borrow.Author.Needs.{needs}
-use Rattle.ir.proofs.fields.const_width.Statement.{statement}
-use Rattle.ir.proofs.fields.const_width.Tie as tie
+use Rattle.ir.proofs.expr.const_width.Statement.{statement}
+use Rattle.ir.proofs.expr.const_width.Tie as tie
 
 returns : tie.Need-returns
 unfolding constWidths
