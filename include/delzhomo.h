@@ -33,6 +33,12 @@ bool delzhomo_check(const uint8_t *listing, size_t listing_length, size_t *first
 /* Where a record of a listing begins, and its length. */
 bool delzhomo_view(const uint8_t *listing, size_t listing_length, size_t number, size_t *first, size_t *second, size_t *third);
 
+/* The unit without its pool indices, lines and constants, into out: how many bytes, which are as many as the unit has. Lowered and
+ * resolved, the stripped unit is refused as the unit is, or has as many records with the same starts, sizes, labels, distances and nodes.
+ * A unit that cannot be read is not refused here: from where reading stops all bytes stay. */
+bool delzhomo_strip(const uint8_t *unit, size_t unit_length, uint8_t *out, size_t out_length, size_t *first, size_t *second,
+                    size_t *third);
+
 #ifdef __cplusplus
 }
 #endif

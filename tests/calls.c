@@ -1,10 +1,14 @@
-/* Calls every function of the static library once on document 01's example (a), and once where it is refused. */
+/* Calls every function of the static library once on document 01's example (a), or on the same loop while true, and once where it is
+ * refused. */
 #include "delzhomo.h"
 
 #include <stdio.h>
 #include <string.h>
 
 static const uint8_t unit[] = {1, 0, 0, 0, 26, 0, 0, 0, 0, 21, 0, 0, 0, 17, 3, 0, 0, 0, 3, 2, 15, 0, 0, 0, 0, 5, 0, 0, 0, 1, 8};
+
+/* The same while true; stripped, it is the one above. */
+static const uint8_t loop[] = {1, 0, 0, 0, 26, 0, 0, 0, 0, 21, 0, 0, 0, 17, 3, 0, 0, 0, 3, 2, 15, 1, 0, 0, 0, 5, 0, 0, 0, 1, 8};
 
 /* A listing of the unit's four records. */
 enum { FRONT = 5, RECORD = 22, LENGTH = FRONT + 4 * RECORD };
@@ -28,6 +32,16 @@ static bool all(const uint8_t *bytes, size_t n, uint8_t value) {
         if (bytes[i] != value) return false;
     }
     return true;
+}
+
+static void strip(void) {
+    uint8_t stripped[sizeof loop + 3];
+    memset(stripped, 0xA5, sizeof stripped);
+    expect("strip, a byte short", !delzhomo_strip(loop, sizeof loop, stripped, sizeof loop - 1, &a, &b, &c) && are(20, 0, 0));
+    expect("a refusal leaves the stripped", all(stripped, sizeof stripped, 0xA5));
+    expect("strip", delzhomo_strip(loop, sizeof loop, stripped, sizeof stripped, &a, &b, &c) && are(sizeof loop, 0, 0));
+    expect("the constant", memcmp(stripped, unit, sizeof unit) == 0);
+    expect("behind the stripped", all(stripped + sizeof loop, 3, 0xA5));
 }
 
 int main(void) {
@@ -54,6 +68,7 @@ int main(void) {
     const uint8_t *last = code + FRONT + 3 * RECORD;
     expect("the last distance is -7", last[2] == 0xFF && last[3] == 0xF9);
     expect("its node is the While at 10", last[18] == 0 && last[19] == 0 && last[20] == 0 && last[21] == 10);
+    strip();
     if (failures == 0) printf("calls.c: every call answers as it should\n");
     return failures != 0;
 }

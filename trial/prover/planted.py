@@ -6,6 +6,8 @@ class Fault:
         self.name = name
         # each is a file, an old text and a new one
         self.edits = []
+        # what the trial that finds it is told besides
+        self.words = []
 
     def plant(self, folder):
         for file, old, new in self.edits:
@@ -17,12 +19,14 @@ class Fault:
 
 
 def read_faults(text):
-    """A line 'fault NAME', then 'file:', and 'old:' and 'new:' in turn; other lines go on with the text before them."""
+    """A line 'fault NAME', perhaps 'with:', then 'file:', and 'old:' and 'new:' in turn; other lines go on with the text before them."""
     faults, file = [], None
     for line in text.splitlines():
         word, _, rest = line.partition(" ")
         if word == "fault":
             faults.append(Fault(rest))
+        elif word == "with:":
+            faults[-1].words = rest.split()
         elif word == "file:":
             file = rest
         elif word == "old:":

@@ -56,6 +56,16 @@ unsafe extern "C" {
         second: *mut usize,
         third: *mut usize,
     ) -> bool;
+
+    fn delzhomo_strip(
+        unit: *const u8,
+        unit_length: usize,
+        out: *mut u8,
+        out_length: usize,
+        first: *mut usize,
+        second: *mut usize,
+        third: *mut usize,
+    ) -> bool;
 }
 
 pub(crate) fn measure(unit: &[u8]) -> Result<Totals, Refusal> {
@@ -142,6 +152,24 @@ pub(crate) fn view(listing: &[u8], number: usize) -> Result<Range<usize>, Refusa
         )
     };
     accepted(done, [first, second, third]).map(|[start, length, _]| start..start + length)
+}
+
+pub(crate) fn strip(unit: &[u8], out: &mut [u8]) -> Result<usize, Refusal> {
+    let [mut first, mut second, mut third] = [0; 3];
+    // SAFETY: each pointer goes with the length of its own slice; only `out` is written, and it is borrowed mutably, so that it does
+    // not overlap the unit; the numbers are three locals of their own.
+    let done = unsafe {
+        delzhomo_strip(
+            unit.as_ptr(),
+            unit.len(),
+            out.as_mut_ptr(),
+            out.len(),
+            &mut first,
+            &mut second,
+            &mut third,
+        )
+    };
+    accepted(done, [first, second, third]).map(|[bytes, _, _]| bytes)
 }
 
 fn totals(done: bool, numbers: [usize; 3]) -> Result<Totals, Refusal> {

@@ -144,3 +144,10 @@ pub fn view(listing: &[u8], number: usize) -> Result<&[u8], Refusal> {
     let part = ffi::view(listing, number)?;
     Ok(listing.get(part).unwrap_or_default())
 }
+
+/// Strips a unit into a lent buffer, and says how many bytes were written, which is always the unit's length. Bytes behind them stay
+/// as they were; a buffer that is shorter than the unit is refused with 20, and stays as it was. [`Unit::stripped`] says what is left
+/// of a unit.
+pub fn strip_into(unit: impl AsRef<[u8]>, out: &mut [u8]) -> Result<usize, Refusal> {
+    ffi::strip(unit.as_ref(), out)
+}

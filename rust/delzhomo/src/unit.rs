@@ -4,7 +4,11 @@ use std::error::Error;
 use std::fmt;
 use std::str::FromStr;
 
+use crate::ffi;
 use crate::path::{self, Nodes, Step};
+
+/// How many bytes stand in a line of hexadecimal.
+const LINE: usize = 16;
 
 /// The bytes of one script. Any bytes can be handed in; the assembler refuses what is no unit.
 #[derive(Debug, Clone, PartialEq, Eq, Hash)]
@@ -36,6 +40,15 @@ impl Unit {
         Ok(Self { bytes })
     }
 
+    /// The unit in hexadecimal, as [`Unit::from_hex`] takes it: 16 bytes a line.
+    pub fn to_hex(&self) -> String {
+        let line = |bytes: &[u8]| {
+            let bytes: Vec<String> = bytes.iter().map(|byte| format!("{byte:02X}")).collect();
+            format!("{}\n", bytes.join(" "))
+        };
+        self.bytes.chunks(LINE).map(line).collect()
+    }
+
     /// Its bytes.
     pub fn bytes(&self) -> &[u8] {
         &self.bytes
@@ -57,6 +70,31 @@ impl Unit {
     /// damaged unit they go as far as the bytes can be followed.
     pub fn nodes(&self) -> Nodes {
         path::nodes(&self.bytes)
+    }
+
+    /// The unit without its names and numbers: pool indices, lines and constants are 0, but an I32 that is neither 0 nor 1 is 2, since
+    /// its instruction is longer. It is refused with the same three numbers, or has the same totals and label table, and at every
+    /// record the same start, size, labels, distances and node.
+    ///
+    /// It is as long as the unit, and stripped again it stays as it is. A unit that cannot be read is stripped as far as it is read.
+    ///
+    /// ```
+    /// use delzhomo::{Block, Expr, Script, Stmt};
+    ///
+    /// let returning = |value| {
+    ///     let block = Block::new([Stmt::Return(Some(Expr::i32(value)))]);
+    ///     Script { returns: true, block }.encode()
+    /// };
+    /// assert_eq!(returning(1_234)?.stripped(), returning(2)?);
+    /// assert_eq!(returning(1)?.stripped(), returning(0)?);
+    /// # Ok::<(), Box<dyn std::error::Error>>(())
+    /// ```
+    pub fn stripped(&self) -> Self {
+        let mut bytes = vec![0; self.bytes.len()];
+        // a buffer of the unit's length is never too short
+        let written = ffi::strip(&self.bytes, &mut bytes).unwrap_or_default();
+        bytes.truncate(written);
+        Self { bytes }
     }
 }
 

@@ -193,6 +193,29 @@ labels 2
 }
 
 #[test]
+fn a_stripped_unit_is_printed_as_a_unit() {
+    let file = example("call");
+    let ran = run(&["strip", &file], b"");
+    // function, name, line and the constant; the parameter's index too
+    let stripped = "\
+01 00 00 00 34 00 00 00 00 2F 00 00 00 2B 01 00
+00 00 26 0F 01 00 00 00 06 0B 02 00 00 00 00 00
+00 00 00 00 00 00 00 00 00 08 03 01 00 01 00 00
+00 07 00 00 00 03 02 0F 00
+";
+    assert_eq!((ran.status, ran.text()), (0, stripped));
+    let again = run(&["strip", "-"], &ran.stdout);
+    assert_eq!((again.status, again.text()), (0, stripped));
+    let bytes = run(&["strip", "--bytes", &file], b"");
+    assert_eq!((bytes.status, bytes.stdout), (0, hex(stripped)));
+    let check = |file: &str, input: &[u8]| run(&["check", file], input).stdout;
+    assert_eq!(check("-", &ran.stdout), check(&file, b""));
+    // what is no unit is no refusal here
+    let ran = run(&["strip", "-"], b"02 0A");
+    assert_eq!((ran.status, ran.text()), (0, "02 0A\n"));
+}
+
+#[test]
 fn draw_has_arrows() {
     let ran = run(&["draw", "--ascii", &example("while-false")], b"");
     let expected = r"
@@ -210,7 +233,7 @@ fn draw_has_arrows() {
 #[test]
 fn wrong_usage_and_files() {
     let file = example("while-false");
-    let wrong: [&[&str]; 14] = [
+    let wrong: [&[&str]; 16] = [
         &[],
         &["stage"],
         &["view", &file],
@@ -225,6 +248,8 @@ fn wrong_usage_and_files() {
         &["check", "--nodes", &file],
         &["stage", "--nodes", "--bytes", &file],
         &["draw", "--nodes", "--listing", &file],
+        &["strip", "--nodes", &file],
+        &["strip", "--listing", &file],
     ];
     for words in wrong {
         let ran = run(words, b"");
@@ -245,7 +270,7 @@ fn help_names_every_command() {
     let ran = run(&["--help"], b"");
     assert_eq!(ran.status, 0);
     for word in [
-        "stage", "labelled", "check", "view", "draw", "--hex", "--raw", "--nodes",
+        "stage", "labelled", "check", "view", "draw", "strip", "--hex", "--raw", "--nodes",
     ] {
         assert!(ran.text().contains(word));
     }

@@ -49,10 +49,13 @@ fn declarations_agree() {
     let in_c = functions(&header, from_c);
     let in_rust = functions(declared, str::to_string);
     let names: Vec<&str> = in_c.iter().map(|(name, _)| name.as_str()).collect();
-    assert_eq!(names, ["measure", "lower", "resolve", "check", "view"]);
+    assert_eq!(
+        names,
+        ["measure", "lower", "resolve", "check", "view", "strip"]
+    );
     assert_eq!(in_c, in_rust);
     let counts: Vec<usize> = in_c.iter().map(|(_, all)| all.len()).collect();
-    assert_eq!(counts, [5, 9, 9, 5, 6]);
+    assert_eq!(counts, [5, 9, 9, 5, 6, 7]);
     // each answers with a bool
     assert_eq!(header.matches("\nbool delzhomo_").count(), in_c.len());
     assert_eq!(declared.matches(") -> bool;").count(), in_rust.len());
@@ -61,8 +64,8 @@ fn declarations_agree() {
 #[test]
 fn every_call_has_its_reason_and_no_other_file_is_unsafe() {
     let ffi = text_of("rust/delzhomo/src/ffi.rs");
-    assert_eq!(ffi.matches("// SAFETY:").count(), 5);
-    assert_eq!(ffi.matches("unsafe {").count(), 5);
+    assert_eq!(ffi.matches("// SAFETY:").count(), 6);
+    assert_eq!(ffi.matches("unsafe {").count(), 6);
     for file in [
         "lib", "draw", "encode", "kind", "listing", "path", "refusal", "tag", "tree", "unit",
     ] {

@@ -20,6 +20,16 @@ fn the_first_example_is_example_a() {
 }
 
 #[test]
+fn what_is_written_is_read_again() {
+    let unit = Unit::from_bytes((0..40).collect::<Vec<u8>>());
+    let text = unit.to_hex();
+    assert_eq!(text.lines().count(), 3);
+    assert_eq!(text.lines().last(), Some("20 21 22 23 24 25 26 27"));
+    assert_eq!(Unit::from_hex(&text).unwrap(), unit);
+    assert_eq!(Unit::from_bytes([]).to_hex(), "");
+}
+
+#[test]
 fn errors_have_lines() {
     let fault = |text| Unit::from_hex(text).unwrap_err();
     let not_a_digit = HexError {

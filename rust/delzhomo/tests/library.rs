@@ -3,13 +3,13 @@
 mod common;
 
 use common::{
-    WHILE_FALSE_CODE, WHILE_FALSE_NODES, call, every_stmt, listing_of, listing_with, nested_blocks,
-    recorded, script, text_of,
+    WHILE_FALSE_CODE, WHILE_FALSE_NODES, call, every_const, every_stmt, listing_of, listing_with,
+    nested_blocks, recorded, script, text_of,
 };
 use delzhomo::tree::*;
 use delzhomo::{
-    Assembler, Label, Listing, Place, Refusal, Tag, Totals, Unit, check, listing_length,
-    lower_into, measure, path_text, resolve_into, view,
+    Assembler, Instruction, Instructions, Label, Listing, Loc, Place, Refusal, Tag, Totals, Unit,
+    check, listing_length, lower_into, measure, path_text, resolve_into, strip_into, view,
 };
 
 fn refusal(number: usize, place: usize, extra: usize) -> Refusal {
@@ -468,4 +468,140 @@ fn an_assembler_is_used_again_after_anything() {
         assert_eq!(again, WHILE_FALSE_CODE);
     }
     assert_eq!(stage(&mut assembler, unit([]).bytes()), "code 0 0\n");
+}
+
+#[test]
+fn a_stripped_constant_is_the_least_of_its_class() {
+    let while_true = hex_unit(&common::WHILE_FALSE.replace("02 0F 00", "02 0F 01"));
+    assert_ne!(while_true, while_false());
+    assert_eq!(while_true.stripped(), while_false());
+    let returning = |value: Const| unit([Stmt::Return(Some(Expr::Const(value)))]);
+    let stripped = |value: i32| returning(Const::I32(value)).stripped();
+    for (value, least) in [(0, 0), (1, 0), (2, 2), (-1, 2), (i32::MIN, 2), (256, 2)] {
+        assert_eq!(stripped(value), returning(Const::I32(least)), "{value}");
+    }
+    for value in every_const() {
+        let stripped = returning(value).stripped();
+        let all = returning(value).into_bytes().into_iter();
+        // front and block 10, Return's length, kind and mark 6, Const's length, kind and byte 6
+        let kept = all
+            .enumerate()
+            .map(|(at, byte)| if at < 22 { byte } else { 0 });
+        let mut kept: Vec<u8> = kept.collect();
+        if let Const::I32(_) = value {
+            *kept.last_mut().unwrap() = 2;
+        }
+        assert_eq!(stripped.bytes(), kept, "{value:?}");
+    }
+}
+
+#[test]
+fn a_stripped_call_has_no_function_name_and_line() {
+    let named = |function, name, line| {
+        let mut call = call(2, [Expr::Nop]);
+        call.callee.function = function;
+        call.callee.name = name;
+        call.callee.line = line;
+        unit([Expr::FreeCall(call).into()])
+    };
+    assert_eq!(named(5, 6, 7).stripped(), named(0, 0, 0));
+    let longest = named(u32::MAX, u32::MAX, u16::MAX);
+    assert_eq!(longest.stripped(), named(0, 0, 0));
+    // its flags, parameters and arguments stay
+    let other = unit([Expr::FreeCall(call(3, [Expr::Nop])).into()]);
+    assert_ne!(other.stripped(), named(0, 0, 0));
+}
+
+#[test]
+fn a_switchs_default_index_stays() {
+    let switch = |scrutinee_type, default_index| {
+        unit([Stmt::Switch {
+            scrutinee_type,
+            scrutinee: Expr::Nop,
+            cases: vec![],
+            default_index,
+            default: None,
+        }])
+    };
+    assert_eq!(switch(7, 3).stripped(), switch(0, 3));
+}
+
+#[test]
+fn a_unit_is_stripped_as_far_as_it_is_read() {
+    // NewInstance of class 7, then a statement of no kind with the same class in it
+    let text = |class: &str| {
+        format!(
+            "01 00000021 00 0000001C 0000000A 01 00000005 04 {class} 0000000A 0B 00000005 04 00000007"
+        )
+    };
+    let unit = hex_unit(&text("00000007"));
+    assert_eq!(measure(&unit), Err(refusal(2, 24, 0)));
+    assert_eq!(unit.stripped(), hex_unit(&text("00000000")));
+    // a Bool that is none stays refused
+    let with_bool = |byte: &str| hex_unit(&common::WHILE_FALSE.replace("02 0F 00", byte));
+    let stripped = with_bool("02 0F 03").stripped();
+    assert_eq!(stripped, with_bool("02 0F 02"));
+    assert_eq!(measure(stripped), measure(with_bool("02 0F 03")));
+    for bytes in [&[][..], &[2], &[1, 0, 0, 0, 9, 0, 7]] {
+        assert_eq!(Unit::from_bytes(bytes).stripped().bytes(), bytes);
+    }
+}
+
+#[test]
+fn stripping_into_a_lent_buffer() {
+    let unit = example("call");
+    let length = unit.bytes().len();
+    for room in [0, 1, length - 1] {
+        let mut out = vec![0xA5; room];
+        assert_eq!(strip_into(&unit, &mut out), Err(refusal(20, 0, 0)));
+        assert!(out.iter().all(|&byte| byte == 0xA5));
+    }
+    for spare in [0, 9] {
+        let mut out = vec![0xA5; length + spare];
+        assert_eq!(strip_into(&unit, &mut out), Ok(length));
+        assert_eq!(out[..length], *unit.stripped().bytes());
+        assert!(out[length..].iter().all(|&byte| byte == 0xA5));
+    }
+    assert_eq!(strip_into([], &mut []), Ok(0));
+}
+
+/// All that stripping leaves of a unit's answers: totals, label table, and of each record what does not hang on names and numbers.
+type Left<L> = Vec<(u32, u32, Option<L>, Option<L>, u32)>;
+
+fn left<L: Loc>(instructions: Instructions<'_, L>) -> Left<L> {
+    let left = |each: Instruction<L>| (each.start, each.end(), each.first, each.second, each.node);
+    instructions.map(left).collect()
+}
+
+type Answers = (
+    Result<Totals, Refusal>,
+    Result<(Vec<u32>, Left<Label>), Refusal>,
+    Result<Left<i16>, Refusal>,
+);
+
+fn answers(assembler: &mut Assembler, unit: &Unit) -> Answers {
+    let lowered = assembler.lower(unit);
+    let lowered = lowered.map(|lowered| (lowered.labels().to_vec(), left(lowered.iter())));
+    let resolved = assembler.assemble(unit).map(|code| left(code.iter()));
+    (measure(unit), lowered, resolved)
+}
+
+#[test]
+fn a_stripped_unit_has_the_same_answers() {
+    let mut assembler = Assembler::new();
+    let mut units: Vec<Unit> = refused_units().into_iter().map(|each| each.0).collect();
+    units.extend(every_stmt().into_iter().map(|stmt| unit([stmt])));
+    units.extend(["call", "switch-mid-default", "too-distant"].map(example));
+    let recorded = recorded("trial/recorded.txt").into_iter();
+    units.extend(recorded.map(|each| Unit::from(each.unit)));
+    let mut changed = 0;
+    for unit in units {
+        let stripped = unit.stripped();
+        assert_eq!(stripped.bytes().len(), unit.bytes().len());
+        assert_eq!(stripped.stripped(), stripped);
+        let found = answers(&mut assembler, &stripped);
+        assert_eq!(found, answers(&mut assembler, &unit), "{}", unit.to_hex());
+        changed += usize::from(stripped != unit);
+    }
+    assert!(changed > 1_000, "{changed}");
 }

@@ -6,17 +6,19 @@ use oracle::answer::Stop;
 use crate::difference::{Compared, Difference, holds, refusal, same, stopped};
 use crate::lent::Lent;
 use crate::published::{self, Made};
+use crate::run::Trial;
+use crate::tally::Tally;
 
-const FRONT: usize = 5;
-const RECORD: usize = 22;
+pub(crate) const FRONT: usize = 5;
+pub(crate) const RECORD: usize = 22;
 
 /// Where a record's last field begins, the node that emitted it. The published assembler has no such field: of a lowered listing it is
 /// left out.
-const NODE: usize = 18;
+pub(crate) const NODE: usize = 18;
 
 /// What is lent beyond what a unit takes.
-const SPARE_BYTES: usize = 40;
-const SPARE_WORDS: usize = 5;
+pub(crate) const SPARE_BYTES: usize = 40;
+pub(crate) const SPARE_WORDS: usize = 5;
 
 /// A unit's answer, and how much of it was compared.
 pub struct Outcome {
@@ -65,7 +67,7 @@ impl Library {
 
     /// Everything that either side says of a unit; with `rooms`, also with room that just
     /// suffices and with too little.
-    pub fn compare(&mut self, unit: &[u8], rooms: bool) -> Compared<Outcome> {
+    fn compare(&mut self, unit: &[u8], rooms: bool) -> Compared<Outcome> {
         match published::assemble(unit) {
             Ok(made) => {
                 self.compare_lowered(unit, &made)?;
@@ -166,6 +168,17 @@ impl Library {
     }
 }
 
+impl Trial for Library {
+    type Tally = Tally;
+
+    fn try_unit(&mut self, unit: &[u8], rooms: bool, tally: &mut Tally) -> Compared<()> {
+        tally.add_unit(unit);
+        let outcome = self.compare(unit, rooms)?;
+        tally.add_outcome(&outcome, rooms);
+        Ok(())
+    }
+}
+
 fn outcome(made: &Made) -> Outcome {
     let (answer, resolved, distances) = match &made.resolved {
         Ok(_) => (Answer::Code, made.totals.records, made.distances),
@@ -209,7 +222,7 @@ fn same_listing(
     Err(Difference {
         asked,
         library: record_text(library, record),
-        published: record_text(published, record),
+        expected: record_text(published, record),
     })
 }
 
@@ -233,7 +246,7 @@ fn first_difference(library: &[u8], published: &[u8], compared: usize) -> Option
 }
 
 /// A record's fields in hexadecimal, or the front.
-fn record_text(listing: &[u8], record: Option<usize>) -> String {
+pub(crate) fn record_text(listing: &[u8], record: Option<usize>) -> String {
     let Some(number) = record else {
         return format!("front {:02X?}", &listing[..FRONT]);
     };
@@ -256,14 +269,14 @@ fn record_text(listing: &[u8], record: Option<usize>) -> String {
     format!("record {number} is {}", fields.join(" "))
 }
 
-fn same_marks(library: &[u32], published: &[u32]) -> Compared<()> {
+pub(crate) fn same_marks(library: &[u32], published: &[u32]) -> Compared<()> {
     let mut pairs = library.iter().zip(published);
     match pairs.position(|(a, b)| a != b) {
         None => Ok(()),
         Some(label) => Err(Difference {
             asked: "lower",
             library: format!("label {label} is marked {}", library[label]),
-            published: format!("label {label} is marked {}", published[label]),
+            expected: format!("label {label} is marked {}", published[label]),
         }),
     }
 }

@@ -1,4 +1,4 @@
-//! Where the library and the published assembler part.
+//! Where the library parts from what is expected of it.
 
 use std::fmt;
 
@@ -11,20 +11,20 @@ pub struct Difference {
     /// What was asked.
     pub asked: &'static str,
     pub library: String,
-    pub published: String,
+    pub expected: String,
 }
 
 pub type Compared<T> = Result<T, Difference>;
 
 /// The same value on both sides.
-pub fn same<T: PartialEq + Said>(asked: &'static str, library: T, published: T) -> Compared<()> {
-    if library == published {
+pub fn same<T: PartialEq + Said>(asked: &'static str, library: T, expected: T) -> Compared<()> {
+    if library == expected {
         return Ok(());
     }
     Err(Difference {
         asked,
         library: library.said(),
-        published: published.said(),
+        expected: expected.said(),
     })
 }
 
@@ -45,19 +45,19 @@ pub fn stopped<T: Said>(
         false => Err(Difference {
             asked,
             library: library.said(),
-            published: stop.to_string(),
+            expected: stop.to_string(),
         }),
     }
 }
 
-/// What document 01 says of lent buffers, or the rule that is broken.
+/// What is said of lent buffers and of stripped units, or the rule that is broken.
 pub fn holds(asked: &'static str, is_so: bool, rule: &str) -> Compared<()> {
     match is_so {
         true => Ok(()),
         false => Err(Difference {
             asked,
             library: format!("it is not so that {rule}"),
-            published: "(document 01)".to_string(),
+            expected: "it is so".to_string(),
         }),
     }
 }
@@ -106,6 +106,6 @@ impl fmt::Display for Difference {
     fn fmt(&self, f: &mut fmt::Formatter<'_>) -> fmt::Result {
         writeln!(f, "  asked: {}", self.asked)?;
         writeln!(f, "  library: {}", self.library)?;
-        writeln!(f, "  published: {}", self.published)
+        writeln!(f, "  expected: {}", self.expected)
     }
 }

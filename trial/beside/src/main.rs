@@ -1,12 +1,14 @@
-//! Gives random units to the built library and to the published assembler. See README.md.
+//! Gives random units to the built library and to the published assembler, or compares them with themselves stripped. See README.md.
 
 mod compare;
 mod difference;
+mod drawn;
 mod lent;
 mod options;
 mod published;
 mod rooms;
 mod run;
+mod stripped;
 mod tally;
 
 use std::process::ExitCode;

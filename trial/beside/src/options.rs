@@ -3,7 +3,8 @@
 use std::str::FromStr;
 
 pub const USAGE: &str = "\
-usage: beside [--seed N] [--well COUNT] [--damaged COUNT] [--short] [--units FILE]
+usage: beside [--strip] [--seed N] [--well COUNT] [--damaged COUNT] [--short] [--units FILE]
+  --strip          compare each unit with itself stripped, without the published assembler
   --seed N         draw other units (1)
   --well COUNT     so many as they were made (100000)
   --damaged COUNT  so many damaged ones (1000000)
@@ -12,6 +13,7 @@ usage: beside [--seed N] [--well COUNT] [--damaged COUNT] [--short] [--units FIL
 
 #[derive(Debug)]
 pub struct Options {
+    pub strip: bool,
     pub seed: u64,
     pub well: usize,
     pub damaged: usize,
@@ -21,6 +23,7 @@ pub struct Options {
 /// What the arguments ask for; none if it is help.
 pub fn parse(mut args: impl Iterator<Item = String>) -> Result<Option<Options>, String> {
     let mut options = Options {
+        strip: false,
         seed: 1,
         well: 100_000,
         damaged: 1_000_000,
@@ -28,6 +31,7 @@ pub fn parse(mut args: impl Iterator<Item = String>) -> Result<Option<Options>, 
     };
     while let Some(arg) = args.next() {
         match arg.as_str() {
+            "--strip" => options.strip = true,
             "--seed" => options.seed = number(args.next())?,
             "--well" => options.well = number(args.next())?,
             "--damaged" => options.damaged = number(args.next())?,

@@ -1,5 +1,6 @@
 //! Draws the units, compares each, and tells what was found.
 
+use std::fmt::Display;
 use std::fs;
 use std::process::ExitCode;
 use std::time::Instant;
@@ -9,9 +10,9 @@ use oracle::generate::{Size, damaged_unit, undamaged_unit};
 use oracle::random::Random;
 
 use crate::compare::Library;
-use crate::difference::Difference;
+use crate::difference::{Compared, Difference};
 use crate::options::Options;
-use crate::tally::Tally;
+use crate::stripped::Pair;
 
 /// One unit of so many is also lent just enough room, and too little.
 const ROOMS: usize = 16;
@@ -19,6 +20,15 @@ const ROOMS: usize = 16;
 /// How many differences are told, and how much of a unit.
 const TOLD: usize = 20;
 const TOLD_BYTES: usize = 2_048;
+
+/// What is tried with each unit.
+pub trait Trial {
+    /// What was compared, in figures.
+    type Tally: Default + Display;
+
+    /// Compares all that is said of a unit, and counts it; with `rooms`, also with room that just suffices and with too little.
+    fn try_unit(&mut self, unit: &[u8], rooms: bool, tally: &mut Self::Tally) -> Compared<()>;
+}
 
 /// A unit on which the two sides differ.
 struct Found {
@@ -28,16 +38,23 @@ struct Found {
 }
 
 /// All units that are compared one after the other.
-struct Run {
-    library: Library,
+struct Run<T> {
+    trial: T,
     found: Vec<Found>,
     differing: usize,
 }
 
 pub fn run(options: &Options) -> Result<ExitCode, String> {
+    match options.strip {
+        true => run_with(Pair::new(), options),
+        false => run_with(Library::new(), options),
+    }
+}
+
+fn run_with(trial: impl Trial, options: &Options) -> Result<ExitCode, String> {
     let began = Instant::now();
     let mut run = Run {
-        library: Library::new(),
+        trial,
         found: vec![],
         differing: 0,
     };
@@ -53,7 +70,7 @@ pub fn run(options: &Options) -> Result<ExitCode, String> {
     })
 }
 
-impl Run {
+impl<T: Trial> Run<T> {
     fn random(&mut self, options: &Options) {
         let Options {
             seed,
@@ -78,17 +95,15 @@ impl Run {
 
     /// Compares the units, and prints their figures.
     fn units(&mut self, name: &str, units: impl Iterator<Item = Vec<u8>>) {
-        let mut tally = Tally::default();
+        let mut tally = T::Tally::default();
         for (number, unit) in units.enumerate() {
-            tally.add_unit(&unit);
             let rooms = number % ROOMS == 0;
-            match self.library.compare(&unit, rooms) {
-                Ok(outcome) => tally.add_outcome(&outcome, rooms),
-                Err(difference) => self.add(Found {
+            if let Err(difference) = self.trial.try_unit(&unit, rooms, &mut tally) {
+                self.add(Found {
                     name: format!("{name} {number}"),
                     unit,
                     difference,
-                }),
+                });
             }
         }
         print!("{name}: {tally}");

@@ -21,11 +21,13 @@ Assembles script units. FILE is a unit, as raw bytes or in commented hexadecimal
   check FILE      whether the unit has code: how many records and labels, and the total size
   view FILE N     record N of the code, from 0 on
   draw FILE       the code with arrows from each jump to where it lands
+  strip FILE      the unit without its pool indices, lines and constants, in hexadecimal, to be read as FILE again;
+                  one that cannot be read is stripped as far as it is read
 
   --hex, --raw    FILE is hexadecimal, or raw bytes (else its content decides)
   --listing       check, view, draw: FILE is a listing with distances, not a unit
-  --bytes         stage, labelled: write the listing itself
-  --nodes         all but check, of a unit: beside each instruction the nodes down to the one that emitted it
+  --bytes         stage, labelled, strip: write the listing or the unit itself
+  --nodes         all but check and strip, of a unit: beside each instruction the nodes down to the one that emitted it
   --ascii         draw: no box characters
   --columns N     draw: at most N columns of arrows
   --help          this text
@@ -130,8 +132,14 @@ fn on_unit(
         Command::View | Command::Draw => {
             on_listing(request, assembler.assemble(unit)?, nodes, out)?;
         }
+        Command::Strip => strip(request, unit, out),
     }
     Ok(())
+}
+
+fn strip(request: &Request, unit: &Unit, out: &mut Vec<u8>) {
+    let stripped = unit.stripped();
+    put(request, stripped.bytes(), &stripped.to_hex(), out);
 }
 
 /// With the nodes of the unit that the listing was made from, if paths are asked for.
@@ -152,8 +160,8 @@ fn on_listing(
                 .map_or(drawing, |columns| drawing.columns(columns))
                 .to_string()
         }
-        Command::Stage | Command::Labelled => {
-            return Err(Failure::Usage("a listing is not lowered again".into()));
+        Command::Stage | Command::Labelled | Command::Strip => {
+            return Err(Failure::Usage("a listing is not a unit".into()));
         }
     };
     out.extend_from_slice(text.as_bytes());
@@ -245,6 +253,7 @@ enum Command {
     Check,
     View,
     Draw,
+    Strip,
 }
 
 impl Command {
@@ -255,6 +264,7 @@ impl Command {
             "check" => Ok(Self::Check),
             "view" => Ok(Self::View),
             "draw" => Ok(Self::Draw),
+            "strip" => Ok(Self::Strip),
             _ => Err(Failure::Usage(format!("no such command: {word}"))),
         }
     }
@@ -358,10 +368,11 @@ impl Options {
 
     /// An option that a command has no use for is a mistake, not a wish to be passed over.
     fn fits(&self, command: Command) -> Outcome {
-        let prints = matches!(command, Command::Stage | Command::Labelled);
+        let strips = command == Command::Strip;
+        let prints = matches!(command, Command::Stage | Command::Labelled) || strips;
         let draws = command == Command::Draw;
         // the nodes are the unit's, and a listing itself has no line to put them beside
-        let has_lines = command != Command::Check && !self.listing && !self.bytes;
+        let has_lines = command != Command::Check && !strips && !self.listing && !self.bytes;
         let misplaced = [
             ("--bytes", self.bytes && !prints),
             ("--listing", self.listing && prints),
