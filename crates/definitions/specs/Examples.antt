@@ -3,13 +3,13 @@ use Prim.Native.Nat.{ℕ, zero, suc}
 use mathlib.Core.Path.{_≡_, refl}
 use mathlib.Core.Bool.{Bool, true, false, cond, _&&_}
 use mathlib.Core.List.{List, [], _∷_, _++_, map}
-use lib.Dec.{eqb}
+use lib.Dec.{eqb, ltb}
 use lib.ListN.{length}
 use lib.IntN.{ℤ, pos, negℤ}
 use Rattle.definitions.specs.Answer.{Result, made, refusal, bind, onward, checked}
 use Rattle.definitions.specs.Bytes.{number, bytes}
-use Rattle.definitions.specs.Tag.{Nop, Null, I32One, I32Zero, I8Const, I32Const, StringConst, TrueConst, FalseConst, Assign, Local, Param, Switch, SwitchLabel, SwitchDefault, Jump, JumpIfFalse, Skip, InvokeStatic, InvokeVirtual, ParamEnd, Return, Context, This, WeakRefToRef, AsRef, Deref, ArrayResize, ArrayElement, U64Const, I32ToEnum, ArrayClear, StructField, ObjectField, Conditional, New, Construct, DynamicCast, sizes, tagSize, emitted, rows, rowOf, defaultTags, constTags, constTag, constWidths, intrinsics, intrinsicOf}
-use Rattle.definitions.specs.Instr.{size, recordBytes, recordAt, unused0, goodRecord}
+use Rattle.definitions.specs.Tag.{Nop, Null, I32One, I32Zero, I8Const, I32Const, StringConst, TrueConst, FalseConst, Assign, Local, Param, Switch, SwitchLabel, SwitchDefault, Jump, JumpIfFalse, Skip, InvokeStatic, InvokeVirtual, ParamEnd, Return, Context, This, WeakRefToRef, AsRef, Deref, ArrayResize, ArrayElement, U64Const, I32ToEnum, ArrayClear, StructField, ObjectField, Conditional, New, Construct, DynamicCast, sizes, tagSize, emitted, Row, rows, rowOf, defaultTags, constTags, constTag, constWidths, intrinsics, intrinsicOf}
+use Rattle.definitions.specs.Instr.{Instr, size, recordBytes, recordAt, unused0, goodRecord}
 use Rattle.definitions.specs.Tree.{exprsOf, blockOf, branchesOf, casesOf, lengthExprs, lengthCases, isPresent, placeOf}
 use Rattle.definitions.specs.Read.{_>>=_, give, unknownKind, unsigned, byteBelow, markBytes, room, span, items, filling, run, head, ended, node, pick, asNop, payload, asConst, asNull, asNewInstance, asConstruct, asAssign, asField, asIndex, asConditional, asDynCast, asLocal, asIntrinsic, callee, arguments, asFreeCall, asStaticCall, asInstanceCall, asClosureCall, exprKinds, exprBody, parseExpr, asExpr, asBlock, asWhile, arm, blockIf, asBranches, asSwitch, asInitArray, asInitDefault, asBreak, asContinue, returnIf, asReturn, stmtKinds, stmtBody, parseStmt, frontGood, parseUnit}
 use Rattle.definitions.specs.Code.{many, emits, unmarked, labelLimit, step, execute}
@@ -17,6 +17,7 @@ use Rattle.definitions.specs.Lower.{require, isPrvalue, onePrvalue, isFl
 use Rattle.definitions.specs.Listing.{recordsBytes, listingBytes, countOf, listingFront, recordsFrom, allGood, readListing, view}
 use Rattle.definitions.specs.Resolve.{inRange, word, signed, distanceOf, resolveField, resolveRecord, resolveRecords, resolve}
 use Rattle.definitions.specs.Stage.{Line, Printed, code, refusedWith, lowered, labelled, lowerInto, stage, linesFrom, totalSize, printed, shown}
+use Rattle.definitions.specs.Stored.{lesses, lessIn, lessOf, there, back as backAgain, moveField, moveRecord, moveRecords, move, store, restore}
 use Rattle.definitions.specs.Strip.{exprParts, stmtParts, partsOf, keep, blank, keepMarks, least, blankPayload, keepLength, stripItems, stripRun, stripParts, stripKind, stripNode, stripExpr, stripStmt, strip, stripInto}
 use Rattle.definitions.specs.Text.{letters, digit, digits, placesIn, decimal, hexadecimal, integer, fields, lineText, linesText, text}
 
@@ -34,6 +35,9 @@ pub data Question : Type 0 where
   -- a listing and a label table resolved into so many bytes; the viewer's record n
   resolveOf : (listing marks : List ℕ) → (space : ℕ) → Question
   viewOf : (listing : List ℕ) → (n : ℕ) → Question
+  -- a resolved listing as the loader stores it, into so many bytes; and back
+  storeOf : (listing : List ℕ) → (space : ℕ) → Question
+  restoreOf : (listing : List ℕ) → (space : ℕ) → Question
   -- a unit stripped; whether two units are equal but for what may differ; the room that a stripped unit needs
   stripOf : (unit : List ℕ) → Question
   pairOf : (unit unit′ : List ℕ) → Question
@@ -79,6 +83,8 @@ answer (originsOf s) = replyOf (λ is. origins (map (λ i. record { tag = i .tag
 answer (roomOf s b w) = replyOf (λ l. fits (length (l .instrs)) (length (l .marks))) (lowerInto s b w)
 answer (resolveOf s m b) = replyPrinted (printed (resolve s m b))
 answer (viewOf s n) = replyOf part (view s n)
+answer (storeOf s b) = replyPrinted (printed (store s b))
+answer (restoreOf s b) = replyPrinted (printed (restore s b))
 answer (stripOf s) = part (strip s)
 answer (pairOf s t) = cond (sameBytes s t) equal (cond (sameBytes (strip s) (strip t)) alike unlike)
 answer (stripRoomOf s b) = replyOf part (stripInto s b)
@@ -173,6 +179,18 @@ switchUnit t i = unitOf (nodeOf 5 (bytes 4 t ++ (nopNodes 1 ++ (bytes 4 i ++ (1 
 -- a listing of one record
 listingOf : (tag first value node : ℕ) → List ℕ
 listingOf t l v at = listingBytes (record { tag = t; small = 0; first = l; second = 0; line = 0; flags = 0; value = v; node = at } ∷ [])
+
+-- the resolved listing of a unit; none where it is refused
+resolvedOf : (unit : List ℕ) → List ℕ
+resolvedOf s = codeIn (stage s)
+  where
+    codeIn : Result (List Instr) → List ℕ
+    codeIn (made is) = listingBytes is
+    codeIn (refusal n p x) = []
+
+-- a listing of one record with two distances
+listingOfTwo : (tag first second : ℕ) → List ℕ
+listingOfTwo t l m = listingBytes (record { tag = t; small = 0; first = l; second = m; line = 0; flags = 0; value = 0; node = 0 } ∷ [])
 
 -- 3. The table
 
@@ -376,6 +394,35 @@ table =
     ∷ example (resolveOf (listingOf Jump 0 0 0) (32768 ∷ []) 27) (refuses 32 0 0)
     -- a byte too few
     ∷ example (resolveOf (listingOf Jump 0 0 0) (32767 ∷ []) 26) (refuses 20 0 0)
+    -- what the loader stores
+    -- (a): 10, 6 and -7 less 3
+    ∷ example (storeOf (resolvedOf (bytes 31 0x010000001A0000000015000000110300000003020F00000000050000000108)) 93) (prints 4 10 (
+    first 0 JumpIfFalse (on 7) 0 ∷ values 3 FalseConst 0 0 ∷ first 4 Jump (on 3) 0 ∷ first 7 Jump (back 10) 0 ∷ []))
+    -- 3 off Skip, Context and both invokes; 3 and 5 off Conditional and SwitchLabel; 11 off Switch
+    ∷ example (storeOf (listingOf Skip 10 0 0) 27) (prints 1 3 (first 0 Skip (on 7) 0 ∷ []))
+    ∷ example (storeOf (listingOf Context 10 0 0) 27) (prints 1 3 (first 0 Context (on 7) 0 ∷ []))
+    ∷ example (storeOf (listingOf InvokeStatic 20 0 0) 27) (prints 1 15 (first 0 InvokeStatic (on 17) 0 ∷ []))
+    ∷ example (storeOf (listingOf InvokeVirtual 20 0 0) 27) (prints 1 15 (first 0 InvokeVirtual (on 17) 0 ∷ []))
+    ∷ example (storeOf (listingOfTwo Conditional 10 20) 27) (prints 1 5 (both 0 Conditional (on 7) (on 15) ∷ []))
+    ∷ example (storeOf (listingOfTwo SwitchLabel 10 20) 27) (prints 1 5 (both 0 SwitchLabel (on 7) (on 15) ∷ []))
+    ∷ example (storeOf (listingOf Switch 20 9 0) 27) (prints 1 11 (first 0 Switch (on 9) 9 ∷ []))
+    -- and on again
+    ∷ example (restoreOf (listingOf Switch 9 9 0) 27) (prints 1 11 (first 0 Switch (on 20) 9 ∷ []))
+    ∷ example (restoreOf (listingOfTwo Conditional 7 15) 27) (prints 1 5 (both 0 Conditional (on 10) (on 20) ∷ []))
+    -- a field that carries no label is copied
+    ∷ example (storeOf (listingOf StructField 0 9 0) 27) (prints 1 9 (values 0 StructField 0 9 ∷ []))
+    -- -32,765 has room for 3, -32,766 has not; 32,764 has room for 3 more, 32,765 has not
+    ∷ example (storeOf (listingOf Jump 0x8003 0 0) 27) (prints 1 3 (first 0 Jump (back 32768) 0 ∷ []))
+    ∷ example (storeOf (listingOf Jump 0x8002 0 0) 27) (refuses 33 0 0)
+    ∷ example (restoreOf (listingOf Jump 0x7FFC 0 0) 27) (prints 1 3 (first 0 Jump (on 32767) 0 ∷ []))
+    ∷ example (restoreOf (listingOf Jump 0x7FFD 0 0) 27) (refuses 33 0 0)
+    -- a second has extra 1, and the first comes first
+    ∷ example (storeOf (listingOfTwo SwitchLabel 10 0x8004) 27) (refuses 33 0 1)
+    ∷ example (storeOf (listingOfTwo SwitchLabel 0x8002 0x8004) 27) (refuses 33 0 0)
+    -- 30 before 33, 33 before 20, 20
+    ∷ example (storeOf (listingOf 0x15 0x8002 0 0) 27) (refuses 30 0 0)
+    ∷ example (storeOf (listingOf Jump 0x8002 0 0) 26) (refuses 33 0 0)
+    ∷ example (storeOf (listingOf Jump 10 0 0) 26) (refuses 20 0 0)
     -- stripped units
     -- a static call with a free call as argument: functions, names and lines go; flags, counts, marks and lengths stay
     ∷ example (stripOf (bytes 65 0x010000003C000000003700000033010000002E0E00000001000000020003000200010000001B0000000101000000120D0000000100000002000301010000000000))
@@ -441,7 +488,7 @@ table =
 -- 4. The theorem: every question of the table has the reply that stands beside it
 
 pub examples : map (λ r. answer (r .question)) table ≡ map (λ r. r .reply) table
-unfolding table answer replyOf replyPrinted sameBytes unitWith constUnit callUnit closureUnit switchUnit exprParts stmtParts partsOf keep blank keepMarks least blankPayload keepLength stripItems stripRun stripParts stripKind stripNode stripExpr stripStmt strip stripInto runOf nodeOf unitOf expression times nopNodes asRefNode callOf freeCallOf instanceCallOf listingOf bind onward checked number bytes sizes tagSize emitted rows rowOf defaultTags constTags constTag constWidths intrinsics intrinsicOf size recordBytes recordAt unused0 goodRecord exprsOf blockOf branchesOf casesOf lengthExprs lengthCases isPresent placeOf _>>=_ give unknownKind unsigned byteBelow markBytes room span items filling run head ended node pick asNop payload asConst asNull asNewInstance asConstruct asAssign asField asIndex asConditional asDynCast asLocal asIntrinsic callee arguments asFreeCall asStaticCall asInstanceCall asClosureCall exprKinds exprBody parseExpr asExpr asBlock asWhile arm blockIf asBranches asSwitch asInitArray asInitDefault asBreak asContinue returnIf asReturn stmtKinds stmtBody parseStmt frontGood parseUnit many emits unmarked labelLimit step execute require isPrvalue onePrvalue isFlagged flagsOf requireFlags weakToRef nullTag elementTag localTag lowerField lowerArg nops emitInvoke emitCall lowerExpr lowerElements lowerArray primitiveDefault defaultInstrs lowerReturn lowerReturnNothing jumpTo midDefault endsGroup inGroup lowerStmt recordsBytes listingBytes countOf listingFront recordsFrom allGood readListing view inRange word signed distanceOf resolveField resolveRecord resolveRecords resolve lowered lowerInto stage linesFrom totalSize printed letters digit digits placesIn decimal integer fields lineText linesText text
+unfolding table answer replyOf replyPrinted sameBytes unitWith constUnit callUnit closureUnit switchUnit exprParts stmtParts partsOf keep blank keepMarks least blankPayload keepLength stripItems stripRun stripParts stripKind stripNode stripExpr stripStmt strip stripInto runOf nodeOf unitOf expression times nopNodes asRefNode callOf freeCallOf instanceCallOf listingOf resolvedOf listingOfTwo bind onward checked number bytes sizes tagSize emitted rows rowOf defaultTags constTags constTag constWidths intrinsics intrinsicOf size recordBytes recordAt unused0 goodRecord exprsOf blockOf branchesOf casesOf lengthExprs lengthCases isPresent placeOf _>>=_ give unknownKind unsigned byteBelow markBytes room span items filling run head ended node pick asNop payload asConst asNull asNewInstance asConstruct asAssign asField asIndex asConditional asDynCast asLocal asIntrinsic callee arguments asFreeCall asStaticCall asInstanceCall asClosureCall exprKinds exprBody parseExpr asExpr asBlock asWhile arm blockIf asBranches asSwitch asInitArray asInitDefault asBreak asContinue returnIf asReturn stmtKinds stmtBody parseStmt frontGood parseUnit many emits unmarked labelLimit step execute require isPrvalue onePrvalue isFlagged flagsOf requireFlags weakToRef nullTag elementTag localTag lowerField lowerArg nops emitInvoke emitCall lowerExpr lowerElements lowerArray primitiveDefault defaultInstrs lowerReturn lowerReturnNothing jumpTo midDefault endsGroup inGroup lowerStmt recordsBytes listingBytes countOf listingFront recordsFrom allGood readListing view inRange word signed distanceOf resolveField resolveRecord resolveRecords resolve lowered lowerInto stage linesFrom totalSize printed lesses lessIn there backAgain moveField moveRecord moveRecords move letters digit digits placesIn decimal integer fields lineText linesText text
 examples = refl
 
 -- 5. An input that is too long, and numbers as text
@@ -461,3 +508,13 @@ integers = refl
 pub words : map (hexadecimal 4) (0 ∷ 0x9A ∷ 0xBCDE ∷ 0x12F ∷ []) ≡ map letters ("0000" ∷ "009A" ∷ "BCDE" ∷ "012F" ∷ [])
 unfolding letters digit digits
 words = refl
+
+-- 6. What is taken off: something off a field exactly if it carries a label, of every tag from 0 on
+
+pub takenOff : (tag : ℕ) → List Row → List (Bool × Bool)
+takenOff t [] = []
+takenOff t (r ∷ rs) = (ltb 0 (lessOf t .first), ltb 0 (lessOf t .second)) ∷ takenOff (suc t) rs
+
+pub carriers : takenOff 0 rows ≡ map (λ r. (r .first, r .second)) rows
+unfolding takenOff lesses lessIn rows
+carriers = refl

@@ -10,6 +10,7 @@ pub mod Lower
 pub mod Listing
 pub mod Resolve
 pub mod Stage
+pub mod Stored
 pub mod Strip
 pub mod Text
 pub mod Examples

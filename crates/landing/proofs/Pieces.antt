@@ -11,7 +11,7 @@ use lib.Dec.{ltb, eqb, T}
 use borrow.Author.Tests.{lt-ltb, le-ltb, eq-eqb, ne-eqb}
 use lib.ListN.{length}
 use lib.IntN.{ℤ, pos, negsuc, subℕ}
-use Rattle.definitions.specs.Tag.{rowOf}
+use Rattle.definitions.specs.Tag.{rowOf, Jump}
 use Rattle.definitions.specs.Instr.{Instr, size}
 use Rattle.definitions.specs.Code.{Action, Code, new, mark, emit, refuse}
 use Rattle.definitions.specs.Resolve.{inRange}
@@ -90,6 +90,17 @@ count l (refuse n p x ∷ acts) = count l acts
 unfoldable pub below : ℕ → ℕ → ℕ
 below n l = elim (ltb l n) [ true ↦ 1 | false ↦ 0 ]
 
+-- a record lands on its own start or behind it, unless it is a Jump
+unfoldable pub Ahead : (M : ℕ → ℕ) (o : ℕ) → Instr → Type 0
+Ahead M o i = eqb (i .tag) Jump ≡ false → (rowOf (i .tag) .first ≡ true → o ≤ M (i .first)) × (rowOf (i .tag) .second ≡ true → o ≤ M (i .second))
+
+unfoldable pub Onwards : (M : ℕ → ℕ) (o : ℕ) → List Action → Type 0
+Onwards M o [] = Unit {0}
+Onwards M o (new at ∷ acts) = Onwards M o acts
+Onwards M o (mark l ∷ acts) = Onwards M o acts
+Onwards M o (emit i ∷ acts) = Ahead M o i × Onwards M (o + size i) acts
+Onwards M o (refuse n p x ∷ acts) = Onwards M o acts
+
 -- each distance of a list is at least -32,764, if all before it are in range
 unfoldable pub Backs : List ℤ → Type 0
 Backs [] = Unit
@@ -110,6 +121,7 @@ pub record Piece (M : ℕ → ℕ) (o n : ℕ) (p : Code) (s c : ℕ) (made mark
   pub given : Agrees M o (actions p n) → gives
   pub lands : Agrees M o (actions p n) → needs → dists M o (actions p n) ≡ ds
   pub backs : Agrees M o (actions p n) → reach → Backs ds
+  pub onward : Agrees M o (actions p n) → needs → Onwards M o (actions p n)
 
 -- 3. Over `++`
 
@@ -173,6 +185,14 @@ dists-append M o (new at ∷ a) b = dists-append M o a b
 dists-append M o (mark l ∷ a) b = dists-append M o a b
 dists-append M o (emit i ∷ a) b = rw (dists-append M (o + size i) a b, ← add-assoc o (size i) (total a)) (carried-append M o i (dists M (o + size i) a) _)
 dists-append M o (refuse n p x ∷ a) b = dists-append M o a b
+
+pub onwards-append : (M : ℕ → ℕ) (o : ℕ) (a b : List Action) → Onwards M o a → Onwards M (o + total a) b → Onwards M o (a ++ b)
+unfolding Onwards total
+onwards-append M o [] b h k = rw add-zero at k
+onwards-append M o (new at ∷ a) b h k = onwards-append M o a b h k
+onwards-append M o (mark l ∷ a) b h k = onwards-append M o a b h k
+onwards-append M o (emit i ∷ a) b h k = (h .0, onwards-append M (o + size i) a b (h .1) (rw (← add-assoc) at k))
+onwards-append M o (refuse n p x ∷ a) b h k = onwards-append M o a b h k
 
 pub backs-append : (xs ys : List ℤ) → Backs xs → Backs ys → Backs (xs ++ ys)
 unfolding Backs

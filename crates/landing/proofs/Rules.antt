@@ -1,15 +1,15 @@
 -- The rules by which the judgement of a construct follows the text of what it emits.
 use Prim.Native.Nat.{ℕ, zero, suc, _+_, _<_, _≤_}
-use mathlib.Core.Path.{_≡_, refl, _∙_, subst}
+use mathlib.Core.Path.{_≡_, refl, sym, _∙_, subst}
 use mathlib.Core.List.{List, [], _∷_, _++_, append-nil}
-use mathlib.Core.Bool.{Bool, true, false, cond}
+use mathlib.Core.Bool.{Bool, true, false, cond, true≢false}
 use native.Mathlib.Omega.{arith}
 use native.Mathlib.Nat.{add-assoc, add-zero}
 use native.Mathlib.Numerals.{add-one}
-use lib.Dec.{ltb→lt}
+use lib.Dec.{ltb→lt, eqb}
 use lib.ListN.{length}
 use lib.IntN.{ℤ}
-use Rattle.definitions.specs.Tag.{rowOf, tagSize}
+use Rattle.definitions.specs.Tag.{rowOf, tagSize, Jump}
 use Rattle.definitions.specs.Instr.{Instr}
 use Rattle.definitions.specs.Code.{Action, Code, mark, emit, refuse, done, act, _then_, label, many, emits}
 use Rattle.definitions.specs.Lower.{require}
@@ -18,7 +18,7 @@ use Rattle.laws.proofs.Sizes.{size-is, tagTotal}
 use Rattle.landing.specs.Distance.{ahead, back}
 use Rattle.landing.specs.Landed.{NotBelow, Each}
 use Rattle.landing.specs.Walk.{news, actions}
-use Rattle.landing.proofs.Pieces.{records, total, also, carried, dists, Agrees, Scoped, hit, hits, count, Backs, Piece, news-append, total-append, records-append, count-append, hits-append, scoped-append, dists-append, backs-append, agrees-left, agrees-right, below-suc, sub-ahead, sub-back, back-one}
+use Rattle.landing.proofs.Pieces.{records, total, also, carried, dists, Agrees, Scoped, hit, hits, count, Backs, Ahead, Onwards, Piece, news-append, total-append, records-append, count-append, hits-append, scoped-append, dists-append, backs-append, onwards-append, agrees-left, agrees-right, below-suc, sub-ahead, sub-back, back-one}
 
 -- which labels the records of a tag carry
 abbrev pub Carries : (tag : ℕ) (first second : Bool) → Type 0
@@ -26,15 +26,15 @@ Carries t f s = (rowOf t .first ≡ f) × (rowOf t .second ≡ s)
 
 module _ {M : ℕ → ℕ} {o n : ℕ} where
   pub nothing : Piece M o n done 0 0 [] [] Unit Unit Unit Unit []
-  unfolding actions count news records Scoped total dists Backs
-  nothing = record { once = λ l. rw (add-zero n) (omega arith); scoped = λ c. tt; sized = λ a. refl; counted = λ a. refl; most = omega arith; given = λ a. tt; lands = λ a h. refl; backs = λ a h. tt }
+  unfolding actions count news records Scoped total dists Backs Onwards
+  nothing = record { once = λ l. rw (add-zero n) (omega arith); scoped = λ c. tt; sized = λ a. refl; counted = λ a. refl; most = omega arith; given = λ a. tt; lands = λ a h. refl; backs = λ a h. tt; onward = λ a h. tt }
 
   pub plain : {i : Instr} → Carries (i .tag) false false → Piece M o n (act (emit i)) (tagSize (i .tag)) 1 [] [] Unit Unit Unit Unit []
-  unfolding actions count news records Scoped total dists carried also Backs
-  plain {i} e = record { once = λ l. rw (add-zero n) (omega arith); scoped = λ c. tt; sized = λ a. omega (arith, size-is i); counted = λ a. refl; most = omega (arith, size-is i); given = λ a. tt; lands = λ a h. rw (e .0, e .1); backs = λ a h. tt }
+  unfolding actions count news records Scoped total dists carried also Backs Ahead Onwards
+  plain {i} e = record { once = λ l. rw (add-zero n) (omega arith); scoped = λ c. tt; sized = λ a. omega (arith, size-is i); counted = λ a. refl; most = omega (arith, size-is i); given = λ a. tt; lands = λ a h. rw (e .0, e .1); backs = λ a h. tt; onward = λ a h. (λ j. (λ c. absurd (true≢false (sym c ∙ e .0)), λ c. absurd (true≢false (sym c ∙ e .1))), tt) }
 
   pub carry : {i : Instr} {a : ℕ} → Carries (i .tag) true false → Piece M o n (act (emit i)) (tagSize (i .tag)) 1 [] [] Unit (M (i .first) ≡ o + a) Unit Unit (ahead a ∷ [])
-  unfolding actions count news records Scoped total dists carried also Backs NotBelow
+  unfolding actions count news records Scoped total dists carried also Backs NotBelow Ahead Onwards
   carry {i} {a} e = record {
     once = λ l. rw (add-zero n) (omega arith);
     scoped = λ c. tt;
@@ -44,11 +44,12 @@ module _ {M : ℕ → ℕ} {o n : ℕ} where
     given = λ a. tt;
     lands = λ g h. rw (e .0, e .1, sub-ahead (M (i .first)) o a h);
     backs = λ g h. (tt, λ t. tt);
+    onward = λ g h. (λ j. (λ c. omega (arith, h), λ c. absurd (true≢false (sym c ∙ e .1))), tt);
   }
 
-  pub carryBack : {i : Instr} (a : ℕ) → Carries (i .tag) true false → Piece M o n (act (emit i)) (tagSize (i .tag)) 1 [] [] Unit (M (i .first) + a ≡ o) Unit (a ≤ 32764) (back a ∷ [])
-  unfolding actions count news records Scoped total dists carried also Backs
-  carryBack {i} a e = record {
+  pub carryBack : {i : Instr} (a : ℕ) → Carries (i .tag) true false → eqb (i .tag) Jump ≡ true → Piece M o n (act (emit i)) (tagSize (i .tag)) 1 [] [] Unit (M (i .first) + a ≡ o) Unit (a ≤ 32764) (back a ∷ [])
+  unfolding actions count news records Scoped total dists carried also Backs Ahead Onwards
+  carryBack {i} a e jump = record {
     once = λ l. rw (add-zero n) (omega arith);
     scoped = λ c. tt;
     sized = λ a. omega (arith, size-is i);
@@ -57,10 +58,11 @@ module _ {M : ℕ → ℕ} {o n : ℕ} where
     given = λ a. tt;
     lands = λ g h. rw (e .0, e .1, sub-back (M (i .first)) o a h);
     backs = λ g h. (back-one a h, λ t. tt);
+    onward = λ g h. (λ j. absurd (true≢false (sym jump ∙ j)), tt);
   }
 
   pub carry2 : {i : Instr} {a b : ℕ} → Carries (i .tag) true true → Piece M o n (act (emit i)) (tagSize (i .tag)) 1 [] [] Unit ((M (i .first) ≡ o + a) × (M (i .second) ≡ o + b)) Unit Unit (ahead a ∷ ahead b ∷ [])
-  unfolding actions count news records Scoped total dists carried also Backs NotBelow
+  unfolding actions count news records Scoped total dists carried also Backs NotBelow Ahead Onwards
   carry2 {i} {a} {b} e = record {
     once = λ l. rw (add-zero n) (omega arith);
     scoped = λ c. tt;
@@ -70,19 +72,20 @@ module _ {M : ℕ → ℕ} {o n : ℕ} where
     given = λ a. tt;
     lands = λ g h. rw (e .0, e .1, sub-ahead (M (i .first)) o a (h .0), sub-ahead (M (i .second)) o b (h .1));
     backs = λ g h. (tt, λ t. (tt, λ t. tt));
+    onward = λ g h. (λ j. (λ c. omega (arith, h .0), λ c. omega (arith, h .1)), tt);
   }
 
   pub marks : {l : ℕ} → Piece M o n (act (mark l)) 0 0 [] (l ∷ []) (l < n) Unit (M l ≡ o) Unit []
-  unfolding actions count news records Scoped total dists Agrees Backs
-  marks = record { once = λ l. rw (add-zero n) (omega arith); scoped = λ c. (c, tt); sized = λ a. refl; counted = λ a. refl; most = omega arith; given = λ a. a .0; lands = λ a h. refl; backs = λ a h. tt }
+  unfolding actions count news records Scoped total dists Agrees Backs Onwards
+  marks = record { once = λ l. rw (add-zero n) (omega arith); scoped = λ c. (c, tt); sized = λ a. refl; counted = λ a. refl; most = omega arith; given = λ a. a .0; lands = λ a h. refl; backs = λ a h. tt; onward = λ a h. tt }
 
   pub refuses : {c p x s k : ℕ} {ds : List ℤ} → Piece M o n (act (refuse c p x)) s k [] [] Unit Unit Unit Unit ds
   unfolding actions count news records Scoped total Agrees
-  refuses = record { once = λ l. rw (add-zero n) (omega arith); scoped = λ c. tt; sized = λ a. absurd a; counted = λ a. absurd a; most = omega arith; given = λ a. tt; lands = λ a h. absurd a; backs = λ a h. absurd a }
+  refuses = record { once = λ l. rw (add-zero n) (omega arith); scoped = λ c. tt; sized = λ a. absurd a; counted = λ a. absurd a; most = omega arith; given = λ a. tt; lands = λ a h. absurd a; backs = λ a h. absurd a; onward = λ a h. absurd a }
 
   pub labels : {at s c : ℕ} {k : ℕ → Code} {made marked : List ℕ} {S H G R : Type 0} {ds : List ℤ} →
       Piece M o (n + 1) (k n) s c made marked S H G R ds → Piece M o n (label at k) s c (n ∷ made) marked S H G R ds
-  unfolding actions count news records Scoped total dists Agrees
+  unfolding actions count news records Scoped total dists Agrees Onwards
   labels {k} {made} {marked} r = record {
     once = λ l. let e : n + suc (news (actions (k n) (n + 1))) ≡ n + 1 + news (actions (k n) (n + 1)) = omega arith in rw e (omega (arith, r .once l, rw (← add-one) at (below-suc n l)));
     scoped = r .scoped;
@@ -92,6 +95,7 @@ module _ {M : ℕ → ℕ} {o n : ℕ} where
     given = r .given;
     lands = r .lands;
     backs = r .backs;
+    onward = r .onward;
   }
 
   pub seq : {p q : Code} {s t c d : ℕ} {made marked made′ marked′ : List ℕ} {S H G R S′ H′ G′ R′ : Type 0} {ds es : List ℤ} →
@@ -111,6 +115,7 @@ module _ {M : ℕ → ℕ} {o n : ℕ} where
         given = λ a. (f .given (agrees-left M o P Q a), g .given (right a));
         lands = λ a h. rw (dists-append M o P Q, f .sized (agrees-left M o P Q a), f .lands (agrees-left M o P Q a) (h .0), g .lands (right a) (h .1));
         backs = λ a r. backs-append ds es (f .backs (agrees-left M o P Q a) (r .0)) (g .backs (right a) (r .1));
+        onward = λ a h. onwards-append M o P Q (f .onward (agrees-left M o P Q a) (h .0)) (rw (f .sized (agrees-left M o P Q a)) (g .onward (right a) (h .1)));
       }
 
 module _ {M : ℕ → ℕ} {o n : ℕ} where
@@ -129,6 +134,7 @@ module _ {M : ℕ → ℕ} {o n : ℕ} where
         given = r .given;
         lands = λ a h. r .lands a (h, tt) ∙ append-nil ds;
         backs = λ a h. subst Backs (append-nil ds) (r .backs a (h, tt));
+        onward = λ a h. r .onward a (h, tt);
       }
 
   -- what the marks give is what the carriers need, and each label that is made is marked once at most
@@ -145,6 +151,7 @@ module _ {M : ℕ → ℕ} {o n : ℕ} where
     given = λ a. c .2 (f .given a);
     lands = λ a h. f .lands a (c .1 h (f .given a)) ∙ e;
     backs = λ a r. subst Backs e (f .backs a (c .6 r));
+    onward = λ a h. f .onward a (c .1 h (f .given a));
   }
 
   -- what follows the first distance may take it for in range
@@ -160,6 +167,7 @@ module _ {M : ℕ → ℕ} {o n : ℕ} where
     given = f .given;
     lands = f .lands;
     backs = λ g r. (tt, λ t. f .backs g (k r (ltb→lt a 32768 t)) .1 t);
+    onward = f .onward;
   }
 
   -- what follows carries no label
@@ -168,13 +176,13 @@ module _ {M : ℕ → ℕ} {o n : ℕ} where
       Piece M o n (p then q) (s + t) (c + d) (made ++ made′) (marked ++ marked′) (S × S′) (H × H′) (G × G′) (R × R′) ds
   last {ds} f g =
       let r = seq f g in
-      record { once = r .once; scoped = r .scoped; sized = r .sized; counted = r .counted; most = r .most; given = r .given; lands = λ a h. r .lands a h ∙ append-nil ds; backs = λ a h. subst Backs (append-nil ds) (r .backs a h) }
+      record { once = r .once; scoped = r .scoped; sized = r .sized; counted = r .counted; most = r .most; given = r .given; lands = λ a h. r .lands a h ∙ append-nil ds; backs = λ a h. subst Backs (append-nil ds) (r .backs a h); onward = r .onward }
 
   -- a mark before the rest
   pub here : {q : Code} {l s c : ℕ} {made marked : List ℕ} {S H G R : Type 0} {ds : List ℤ} →
       Piece M o n q s c made marked S H G R ds →
       Piece M o n (act (mark l) then q) s c made (l ∷ marked) ((l < n) × S) H ((M l ≡ o) × G) R ds
-  unfolding actions count news records Scoped total dists Agrees
+  unfolding actions count news records Scoped total dists Agrees Onwards
   here {q} {l} {made} {marked} {ds} f = record {
     once = λ k. rw (add-zero n) (omega (arith, f .once k));
     scoped = λ c. (c .0, rw (add-zero n) (f .scoped (c .1)));
@@ -184,6 +192,7 @@ module _ {M : ℕ → ℕ} {o n : ℕ} where
     given = λ a. (a .0, f .given (rw (add-zero n) at (a .1)));
     lands = λ a h. rw (add-zero n) (f .lands (rw (add-zero n) at (a .1)) h);
     backs = λ a h. f .backs (rw (add-zero n) at (a .1)) h;
+    onward = λ a h. rw (add-zero n) (f .onward (rw (add-zero n) at (a .1)) h);
   }
 
   -- one of two

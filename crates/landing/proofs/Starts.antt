@@ -10,15 +10,15 @@ use lib.Dec.{eqb}
 use borrow.Author.Tests.{lt-ltb, le-ltb, eq-eqb, ne-eqb}
 use lib.ListN.{length, take}
 use lib.IntN.{ℤ, pos, negsuc, subℕ}
-use Rattle.definitions.specs.Tag.{rowOf}
+use Rattle.definitions.specs.Tag.{rowOf, Jump}
 use Rattle.definitions.specs.Tree.{Script}
 use Rattle.definitions.specs.Instr.{Instr, size}
 use Rattle.definitions.specs.Code.{Action, new, mark, emit, refuse}
 use Rattle.definitions.specs.Stage.{totalSize}
 use Rattle.landing.specs.Distance.{sizeOf, distancesOf}
-use Rattle.landing.specs.Landed.{left, labelFields, FieldLands, AllLand, CarriedIn, Carried}
+use Rattle.landing.specs.Landed.{left, labelFields, FieldLands, AllLand, CarriedIn, Carried, Forward, FieldAhead, OnlyJumpsBack}
 use Rattle.landing.specs.Walk.{news, actionsOf}
-use Rattle.landing.proofs.Pieces.{records, total, also, carried, dists, below-no, Agrees, hit, count, hit-yes, hit-no}
+use Rattle.landing.proofs.Pieces.{records, total, Ahead, Onwards, also, carried, dists, below-no, Agrees, hit, count, hit-yes, hit-no}
 use Rattle.landing.proofs.Runs.{whole, lands-as}
 
 -- 1. The distances that the records of a listing carry, where M gives each label's mark
@@ -148,6 +148,30 @@ all-land M listing o (i ∷ is) h =
       rw (left-also f (subℕ (M (i .first)) o) seconds, left-also s (subℕ (M (i .second)) o) rest) (all-land M listing (o + size i) is (λ k c. h k (inr (inr c)))),
     )
 
+-- 4. A distance back is that of a Jump
+
+field-ahead : (b j : Bool) (M : ℕ → ℕ) (o l : ℕ) (ds : List ℤ) → (j ≡ false → b ≡ true → o ≤ M l) → FieldAhead b j (also b (subℕ (M l) o) ds)
+unfolding FieldAhead Forward also
+field-ahead true true M o l ds h = tt
+field-ahead true false M o l ds h = rw (le-ltb (M l) o (h refl refl)) tt
+field-ahead false j M o l ds h = tt
+
+jumps-only : (M : ℕ → ℕ) (o : ℕ) (acts : List Action) → Onwards M o acts → OnlyJumpsBack (records acts) (distances M o (records acts))
+unfolding Onwards Ahead records distances carried OnlyJumpsBack
+jumps-only M o [] h = tt
+jumps-only M o (new at ∷ acts) h = jumps-only M o acts h
+jumps-only M o (mark l ∷ acts) h = jumps-only M o acts h
+jumps-only M o (emit i ∷ acts) h =
+    let rest = distances M (o + size i) (records acts) in
+    let f = rowOf (i .tag) .first in
+    let s = rowOf (i .tag) .second in
+    let seconds = also s (subℕ (M (i .second)) o) rest in (
+      field-ahead f (eqb (i .tag) Jump) M o (i .first) seconds (λ j c. h .0 j .0 c),
+      rw (left-also f (subℕ (M (i .first)) o) seconds) (field-ahead s (eqb (i .tag) Jump) M o (i .second) rest (λ j c. h .0 j .1 c)),
+      rw (left-also f (subℕ (M (i .first)) o) seconds, left-also s (subℕ (M (i .second)) o) rest) (jumps-only M (o + size i) acts (h .1)),
+    )
+jumps-only M o (refuse n p x ∷ acts) h = jumps-only M o acts h
+
 size-take : (j : ℕ) (is : List Instr) → totalSize (take j is) ≤ totalSize is
 unfolding totalSize
 size-take zero is = omega arith
@@ -162,7 +186,7 @@ size-total (mark l ∷ acts) = size-total acts
 size-total (emit i ∷ acts) = rw (size-total acts)
 size-total (refuse n p x ∷ acts) = size-total acts
 
--- 4. A unit
+-- 5. A unit
 
 abbrev pub recordsOf : Script → List Instr
 recordsOf u = records (actionsOf u)
@@ -180,6 +204,9 @@ module _ (u : Script) (M : ℕ → ℕ) (a : Agrees M 0 (actionsOf u)) where
 
   pub unit-lands : AllLand (recordsOf u) 0 (recordsOf u) (distancesOf u)
   unit-lands = rw (sym (unit-distances u M a)) (all-land M (recordsOf u) 0 (recordsOf u) (λ k c. marked-start M 0 (actionsOf u) k a (carried-marked k c)))
+
+  pub unit-jumps : OnlyJumpsBack (recordsOf u) (distancesOf u)
+  unit-jumps = rw (sym (unit-distances u M a)) (jumps-only M 0 (actionsOf u) (whole M u .onward a (refl, refl)))
 
   pub unit-marked : (k : ℕ) → Carried k (recordsOf u) → (k < news (actionsOf u)) × (M k ≤ sizeOf u)
   unit-marked k c =

@@ -80,7 +80,7 @@ landContinue : {M : ℕ → ℕ} {o n : ℕ} (number at : ℕ) (l : Option ℕ) 
     Inside M o n B C X (jumpTo number at l) Jump 1 before after (back before ∷ [])
 unfolding jumpTo rowOf rows
 landContinue number at none B C X before after h r = close (refuses {s = Jump} {k = 1}) refl (omega arith)
-landContinue number at (some l) B C X before after h r = close (carryBack before (refl, refl)) refl (omega arith)
+landContinue number at (some l) B C X before after h r = close (carryBack before (refl, refl) refl) refl (omega arith)
 
 -- 3. A switch with a default before one of its cases
 
@@ -183,7 +183,7 @@ mutual
   landStmt {M} {o} {n} (while at c b) scope B C X before after h =
       let r = scope .returns in
       close (guarded {a = JumpIfFalse + sizeExpr c + sizeBlock b r + Jump} {R′ = before + (JumpIfFalse + sizeExpr c + sizeBlock b r + Jump) ≤ X}
-      (labels (labels (seq marks (seq (carry (refl, refl)) (seq (landExpr c) (seq (landBlock b (inLoop n (n + 1) scope) (M (n + 1)) (M n) 32764 _ _ (record { breakTarget = refl; continueTarget = refl; limit = omega arith })) (ends (carryBack _ (refl, refl)))))))))
+      (labels (labels (seq marks (seq (carry (refl, refl)) (seq (landExpr c) (seq (landBlock b (inLoop n (n + 1) scope) (M (n + 1)) (M n) 32764 _ _ (record { breakTarget = refl; continueTarget = refl; limit = omega arith })) (ends (carryBack _ (refl, refl) refl))))))))
       (λ q lt. omega (arith, sized)))
       refl (omega arith)
   landStmt (branches at bs d) scope B C X before after h =

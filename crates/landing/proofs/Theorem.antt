@@ -18,11 +18,11 @@ use Rattle.definitions.specs.Lower.{lower}
 use Rattle.definitions.specs.Resolve.{inRange, word, signed}
 use Rattle.definitions.specs.Stage.{totalSize, lowered, stage}
 use Rattle.landing.specs.Distance.{sizeOf, distancesOf}
-use Rattle.landing.specs.Landed.{withDistances, allNear, isMade, Carried, Landed, Bounded, NotBelow, Each, firstOut, Forward, Backward}
+use Rattle.landing.specs.Landed.{withDistances, allNear, isMade, Carried, Landed, Bounded, NotBelow, Each, firstOut, Forward, Backward, OnlyJumpsBack}
 use Rattle.landing.specs.Walk.{actionsOf}
 use Rattle.landing.proofs.Pieces.{records, Agrees, Backs}
 use Rattle.landing.proofs.Runs.{whole, markOf, labels-made, labels-limit, listing, offset, agrees}
-use Rattle.landing.proofs.Starts.{distances, distances-count, size-total, recordsOf, unit-distances, unit-lands, unit-marked}
+use Rattle.landing.proofs.Starts.{distances, distances-count, size-total, recordsOf, unit-distances, unit-lands, unit-jumps, unit-marked}
 use Rattle.landing.proofs.Resolving.{resolves-filled, first-out, resolves-near}
 use Rattle.landing.proofs.Paid.{unit-paid}
 
@@ -109,6 +109,10 @@ pub backward : (s : List ℕ) (u : Script) (next : ℕ) → parseUnit s ≡ ok u
 backward s u next read t e =
     let b = whole (markOf t) u .backs (agrees u t e) (omega arith) in
     record { forward = first-forward (distancesOf u) b; reach = each-near (distancesOf u) b }
+
+-- a distance back is that of a Jump
+pub jumps-back : (u : Script) (t : State) → lower u ≡ made t → OnlyJumpsBack (t .instrs) (distancesOf u)
+jumps-back u t e = rw (listing u t e) (unit-jumps u (markOf t) (agrees u t e))
 
 -- 4. The sixteen bits of a distance in range stand for that distance
 

@@ -5,10 +5,11 @@ use mathlib.Core.List.{List, [], _∷_}
 use mathlib.Core.Logic.{_⊎_}
 use mathlib.Core.Option.{Option, none, some}
 use mathlib.Core.Path.{_≡_}
+use lib.Dec.{eqb}
 use lib.ListN.{length, getD, take, drop}
 use lib.IntN.{ℤ, pos, negsuc, subℕ}
 use Rattle.definitions.specs.Answer.{Result, made, refusal}
-use Rattle.definitions.specs.Tag.{rowOf}
+use Rattle.definitions.specs.Tag.{rowOf, Jump}
 use Rattle.definitions.specs.Tree.{Script}
 use Rattle.definitions.specs.Instr.{Instr, size}
 use Rattle.definitions.specs.Code.{State, unmarked}
@@ -167,3 +168,16 @@ pub record Backward (u : Script) : Type 0 where
   pub forward : Forward (firstOut (distancesOf u))
   -- in a unit that resolves, no distance is below -32,764
   pub reach : allNear (distancesOf u) ≡ true → Each NotBelow (distancesOf u)
+
+-- the first of the distances, if the field carries one and its record is no Jump, is one ahead
+unfoldable pub FieldAhead : (carries jump : Bool) → List ℤ → Type 0
+FieldAhead true true ds = Unit
+FieldAhead true false ds = Forward (some (getD ds 0 (pos 0)))
+FieldAhead false jump ds = Unit
+
+-- a distance back is that of a Jump
+unfoldable pub OnlyJumpsBack : List Instr → List ℤ → Type 0
+OnlyJumpsBack [] ds = Unit
+OnlyJumpsBack (i ∷ is) ds =
+    let es = left (rowOf (i .tag) .first) ds in
+    FieldAhead (rowOf (i .tag) .first) (eqb (i .tag) Jump) ds × FieldAhead (rowOf (i .tag) .second) (eqb (i .tag) Jump) es × OnlyJumpsBack is (left (rowOf (i .tag) .second) es)
