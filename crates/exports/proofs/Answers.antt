@@ -27,7 +27,7 @@ use Rattle.resolve.specs.declared.Resolved.the-variants as resolution
 use Rattle.strip.specs.Values.{stripping}
 use Rattle.strip.specs.declared.Stripped.{Stripped}
 use Rattle.strip.specs.declared.Stripped.the-variants as strip
-use Rattle.exports.specs.Numbers.{Numbers, numbers, measured, lowered, outOf, marksOf, resolved, codeOf, checked, viewed, stripped, strippedOf}
+use Rattle.exports.specs.Numbers.{Numbers, numbers, measured, lowered, outOf, marksOf, recordsOf, resolved, codeOf, checked, viewed, stripped, strippedOf}
 
 pub measured-done : (r : Lowered) (c : Counters) → r ≡ lowering.Done c → numbers true (c .count) (c .labels) (c .offset) ≡ measured (measuring r)
 unfolding measuring measured
@@ -48,14 +48,24 @@ lowered-as n r o m x h e =
     let a = answered r o m in
     (h ∙ a .0 ∙ ap lowered e, (a .1 .0 ∙ ap outOf e, a .1 .1 ∙ ap marksOf e))
 
-module _ (r : Resolved) (o : List ℕ) (x : Resolving) (e : resolving r o ≡ x) where
-  pub resolved-done : (n : ℕ) → r ≡ resolution.Done n → (numbers true n 0 0 ≡ resolved x) × (o ≡ codeOf x)
-  unfolding resolving resolved codeOf
-  resolved-done n d = let f = rw d at e in (ap resolved f, ap codeOf f)
+pub records-done : (r : Resolved) (n : ℕ) → r ≡ resolution.Done n → numbers true n 0 0 ≡ recordsOf r
+unfolding recordsOf
+records-done r n d = ap recordsOf (sym d)
 
-  pub resolved-refused : (q : Refusal) → r ≡ resolution.Refused q → (numbers false (q .number) (q .place) (q .extra) ≡ resolved x) × (o ≡ codeOf x)
-  unfolding resolving resolved codeOf
-  resolved-refused q d = let f = rw d at e in (ap resolved f, ap codeOf f)
+pub records-refused : (r : Resolved) (q : Refusal) → r ≡ resolution.Refused q → numbers false (q .number) (q .place) (q .extra) ≡ recordsOf r
+unfolding recordsOf
+records-refused r q d = ap recordsOf (sym d)
+
+-- what resolving, storing or the way back answers and leaves
+resolved-same : (r : Resolved) (o : List ℕ) → (recordsOf r ≡ resolved (resolving r o)) × (o ≡ codeOf (resolving r o))
+unfolding resolving recordsOf resolved codeOf
+resolved-same (resolution.Done n) o = (refl, refl)
+resolved-same (resolution.Refused q) o = (refl, refl)
+
+pub resolved-as : (n : Numbers) (r : Resolved) (o : List ℕ) (x : Resolving) → n ≡ recordsOf r → resolving r o ≡ x → (n ≡ resolved x) × (o ≡ codeOf x)
+resolved-as n r o x h e =
+    let a = resolved-same r o in
+    (h ∙ a .0 ∙ ap resolved e, a .1 ∙ ap codeOf e)
 
 checked-as : (n : ℕ) (x : Result (List Instr)) → made n ≡ counted x → numbers true n 0 0 ≡ checked x
 unfolding counted checked

@@ -9,6 +9,8 @@ use Rattle.definitions.specs.Listing.{listingLength}
 use Rattle.definitions.specs.Stage.{Measured, Lowering, listed, turned, Resolving, coded, unresolved}
 use Rattle.definitions.specs.Strip.{Stripping, unstripped}
 use Rattle.definitions.specs.Strip as stripping
+use Rattle.resolve.specs.declared.Resolved.{Resolved}
+use Rattle.resolve.specs.declared.Resolved.the-variants.{Done, Refused}
 
 pub record Numbers : Type 0 where
   pub done : Bool
@@ -37,7 +39,11 @@ unfoldable pub marksOf : Lowering → List ℕ
 marksOf (listed size labels count o m) = m
 marksOf (turned n p x o m) = m
 
--- records
+-- records, by the code's answer and by the definition's
+unfoldable pub recordsOf : Resolved → Numbers
+recordsOf (Done n) = numbers true n 0 0
+recordsOf (Refused q) = numbers false (q .number) (q .place) (q .extra)
+
 unfoldable pub resolved : Resolving → Numbers
 resolved (coded count o) = numbers true count 0 0
 resolved (unresolved n p x o) = numbers false n p x

@@ -5,9 +5,10 @@ ghost use lib.ListN.{length};
 ghost use Rattle.definitions.specs.Listing.{readListing, view};
 ghost use Rattle.definitions.specs.Resolve.{resolve};
 ghost use Rattle.definitions.specs.Stage.{measure, lowerInto, lowerTo, resolveTo};
+ghost use Rattle.definitions.specs.Stored.{store, restore};
 ghost use Rattle.definitions.specs.Strip.{stripInto, stripTo};
 ghost use Rattle.assemble.specs.Whole.{measuring};
-ghost use Rattle.exports.specs.Numbers.{numbers, measured, lowered, outOf, marksOf, resolved, codeOf, checked, viewed, stripped, strippedOf};
+ghost use Rattle.exports.specs.Numbers.{numbers, measured, lowered, outOf, marksOf, recordsOf, resolved, codeOf, checked, viewed, stripped, strippedOf};
 use assemble::Lowered;
 use instr::listings;
 use instr::listings::Checked;
@@ -46,6 +47,16 @@ fn totals(answer: Lowered, first: &mut usize, second: &mut usize, third: &mut us
             give(true, count, labels, size, first, second, third)
         }
         Lowered::Refused(q) => give(false, q.number, q.place, q.extra, first, second, third),
+    }
+}
+
+// Records of a listing.
+fn records(answer: Resolved, first: &mut usize, second: &mut usize, third: &mut usize) -> bool
+    ensures { λ r. ⌜ numbers «r» (now (first .exit)) (now (second .exit)) (now (third .exit)) ≡ recordsOf answer ⌝ }
+{
+    match answer {
+        Resolved::Done { count } => give(true, count, 0, 0, first, second, third),
+        Resolved::Refused(q) => give(false, q.number, q.place, q.extra, first, second, third),
     }
 }
 
@@ -95,10 +106,7 @@ pub extern "C" fn delzhomo_resolve(
     ensures { λ _. ⌜ now (out .exit) ≡ codeOf (resolveTo (resolve (now (listing .entry)) (now (marks .entry)) (length (now (out .entry)))) (now (out .entry))) ⌝ }
 {
     let answer = resolve::resolve(listing, marks, out);
-    match answer {
-        Resolved::Done { count } => give(true, count, 0, 0, first, second, third),
-        Resolved::Refused(q) => give(false, q.number, q.place, q.extra, first, second, third),
-    }
+    records(answer, first, second, third)
 }
 
 // Whether a slice is a listing: its records.
@@ -157,4 +165,36 @@ pub extern "C" fn delzhomo_strip(
         Stripped::Done { count } => give(true, count, 0, 0, first, second, third),
         Stripped::Refused(q) => give(false, q.number, q.place, q.extra, first, second, third),
     }
+}
+
+// What the loader stores of a resolved listing: records.
+#[no_mangle]
+pub extern "C" fn delzhomo_store(
+    listing: &[u8],
+    out: &mut [u8],
+    first: &mut usize,
+    second: &mut usize,
+    third: &mut usize,
+) -> bool
+    ensures { λ r. ⌜ numbers «r» (now (first .exit)) (now (second .exit)) (now (third .exit)) ≡ resolved (resolveTo (store (now (listing .entry)) (length (now (out .entry)))) (now (out .entry))) ⌝ }
+    ensures { λ _. ⌜ now (out .exit) ≡ codeOf (resolveTo (store (now (listing .entry)) (length (now (out .entry)))) (now (out .entry))) ⌝ }
+{
+    let answer = store::store(listing, out);
+    records(answer, first, second, third)
+}
+
+// The resolved listing of what the loader stores: records.
+#[no_mangle]
+pub extern "C" fn delzhomo_restore(
+    listing: &[u8],
+    out: &mut [u8],
+    first: &mut usize,
+    second: &mut usize,
+    third: &mut usize,
+) -> bool
+    ensures { λ r. ⌜ numbers «r» (now (first .exit)) (now (second .exit)) (now (third .exit)) ≡ resolved (resolveTo (restore (now (listing .entry)) (length (now (out .entry)))) (now (out .entry))) ⌝ }
+    ensures { λ _. ⌜ now (out .exit) ≡ codeOf (resolveTo (restore (now (listing .entry)) (length (now (out .entry)))) (now (out .entry))) ⌝ }
+{
+    let answer = store::restore(listing, out);
+    records(answer, first, second, third)
 }

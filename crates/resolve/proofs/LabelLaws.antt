@@ -62,7 +62,7 @@ module _ (marks : List ℕ) (start number extra l mark : ℕ) (m : mark ≡ getD
 -- 3. A record, with the row of its tag
 
 -- its tag is the byte that it begins with
-tag-at : (s : List ℕ) (at : ℕ) → recordAt s at .tag ≡ getD s at 0
+pub tag-at : (s : List ℕ) (at : ℕ) → recordAt s at .tag ≡ getD s at 0
 unfolding recordAt
 tag-at s at = sym (one-byte s at refl)
 

@@ -1,6 +1,7 @@
 -- Laws that belong to no one function, and the theorem.
-mod LabelLaws
+pub mod LabelLaws
 pub mod Listed
+pub mod Passes
 mod PassLaws
 pub mod Delivered
 pub mod Applied

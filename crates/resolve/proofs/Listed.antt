@@ -12,13 +12,13 @@ use Rattle.definitions.specs.Answer.{Result, made, checked}
 use Rattle.definitions.specs.Tag.{rowOf}
 use Rattle.definitions.specs.Instr.{Instr, size, recordLength, recordAt, unused0, goodRecord}
 use Rattle.definitions.specs.Code.{unmarked}
-use Rattle.definitions.specs.Listing.{frontLength, countOf, recordLimit, recordsFrom, recordsOf, allGood, readListing}
+use Rattle.definitions.specs.Listing.{frontLength, countOf, recordLimit, recordsFrom, recordsOf, allGood, readListing, listingBytes}
 use Rattle.definitions.specs.Resolve.{inRange, word, distanceOf, resolveField, resolveRecord, resolveRecords, fitting, resolve}
 use Rattle.laws.proofs.Inversion.{refusal-not-made}
 use Rattle.laws.proofs.Results.{made-is, onward-is}
 use Rattle.laws.proofs.Widths.{Within, AllWithin, number-fits}
 use Rattle.instr.specs.Values.{checkedIs, counted}
-use Rattle.instr.proofs.WholeLaws.{accepted}
+use Rattle.instr.proofs.WholeLaws.{accepted, read-is-written}
 use Rattle.landing.specs.Walk.{Bytes}
 
 -- a check that was passed
@@ -28,7 +28,7 @@ checked-is true n p x r e = e
 checked-is false n p x r e = refusal-not-made e
 
 -- sixteen bits
-word-fits : (d : ℤ) → inRange d ≡ true → word d < 256 ^ 2
+pub word-fits : (d : ℤ) → inRange d ≡ true → word d < 256 ^ 2
 unfolding inRange word
 word-fits (pos n) e = let h = ltb-true n 32768 e in omega arith
 word-fits (negsuc n) e = let h = ltb-true n 32768 e in omega arith
@@ -103,6 +103,25 @@ unfolding recordsFrom
 records-within s b zero at = tt
 records-within s b (suc n) at = (record-within s b at, records-within s b n (at + recordLength))
 
+-- a listing that is read: its records fit their bytes, a listing may hold them, and written again they are the listing
+pub record Read (s : List ℕ) (is : List Instr) : Type 0 where
+  pub within : AllWithin is
+  pub good : allGood is ≡ true
+  pub few : length is ≤ recordLimit
+  pub written : listingBytes is ≡ s
+
+pub listing-read : (s : List ℕ) (is : List Instr) → Bytes s → readListing s ≡ made is → Read s is
+unfolding counted checkedIs
+listing-read s is b e =
+    let k = accepted s (length is) (sym (ap counted e)) in
+    let same : is ≡ recordsOf s = made-is (sym e ∙ k .reads) in
+    record {
+      within = rw same (records-within s b (countOf s) frontLength);
+      good = rw same (k .good);
+      few = k .few;
+      written = rw same (read-is-written s (countOf s) (rw (k .count) at k) b);
+    }
+
 -- whatever listing is resolved: what comes is one
 pub record Resolved (rs : List Instr) : Type 0 where
   pub within : AllWithin rs
@@ -110,12 +129,11 @@ pub record Resolved (rs : List Instr) : Type 0 where
   pub few : length rs ≤ recordLimit
 
 pub resolved-listing : (s marks : List ℕ) (space : ℕ) (rs : List Instr) → Bytes s → resolve s marks space ≡ made rs → Resolved rs
-unfolding resolve counted checkedIs
+unfolding resolve
 resolved-listing s marks space rs b e =
     let a = onward-is (readListing s) _ e in
     let c = onward-is (resolveRecords marks 0 0 (a .0)) (fitting space) (a .2) in
-    let k = accepted s (length (a .0)) (sym (ap counted (a .1))) in
-    let is : a .0 ≡ recordsOf s = made-is (sym (a .1) ∙ k .reads) in
+    let l = listing-read s (a .0) b (a .1) in
     let same : c .0 ≡ rs = made-is (checked-is _ 20 0 0 (made (c .0)) (c .2)) in
-    let r = records-listed marks 0 0 (a .0) (c .0) (c .1) (rw is (records-within s b (countOf s) frontLength)) (rw is (k .good)) in
-    rw (← same) (record { within = r .0; good = r .1; few = omega (arith, resolved-length marks 0 0 (a .0) (c .0) (c .1), k .few) })
+    let r = records-listed marks 0 0 (a .0) (c .0) (c .1) (l .within) (l .good) in
+    rw (← same) (record { within = r .0; good = r .1; few = omega (arith, resolved-length marks 0 0 (a .0) (c .0) (c .1), l .few) })

@@ -20,13 +20,13 @@ use ir::Refusal;
 const UNMARKED: u32 = 4294967295;
 
 // The sixteen bits of a field, or why there are none.
-pub(crate) enum Field {
+pub enum Field {
     Is(u16),
     Not(Refusal),
 }
 
-// What a record's first and second hold with distances in place of labels, or why there is no such record.
-pub(crate) enum Mapped {
+// What a record's first and second hold when they have been mapped, or why there is no such record.
+pub enum Mapped {
     Is { first: u16, second: u16 },
     Not(Refusal),
 }

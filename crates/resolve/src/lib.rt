@@ -9,7 +9,7 @@ ghost use Rattle.definitions.specs.Stage.{over, coded, resolveTo};
 ghost use Rattle.instr.specs.Values.{counted};
 ghost use Rattle.resolve.specs.Values.{resolvedIs, resolving};
 
-mod labels;
+pub mod labels;
 
 use instr::listings;
 use instr::listings::Checked;
@@ -57,7 +57,7 @@ fn check_labels(listing: &[u8], marks: &[u32], count: usize) -> Resolved
 }
 
 // The listing at the front of the buffer; what follows it stays.
-fn copy_listing(listing: &[u8], out: &mut [u8])
+pub fn copy_listing(listing: &[u8], out: &mut [u8])
     requires { ⌜ length (now listing) ≤ length (now out) ⌝ }
     ensures { λ _. ⌜ now (out .exit) ≡ over (now (listing .entry)) (now (out .entry)) ⌝ }
 {

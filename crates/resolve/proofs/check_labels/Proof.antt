@@ -7,14 +7,15 @@ use Rattle.laws.proofs.Sizes.{size-limit}
 use Rattle.instr.proofs.TableLaws.{theRows, theNumbers, few}
 use Rattle.resolve.specs.Values.{mappedIs}
 use Rattle.resolve.proofs.LabelLaws.{size-at, row-in-tables, unlabelled}
-use Rattle.resolve.proofs.PassLaws.{Gone, gone-start, nextOf, gone-next, labels-refused, labels-end, accepts}
+use Rattle.resolve.proofs.Passes.{Gone, gone-start, nextOf, gone-next, labels-refused, labels-end, accepts}
+use Rattle.resolve.proofs.PassLaws.{resolvePass}
 use borrow.Author.Needs.{needs}
 use native.Mathlib.Omega.{arith}
 use Rattle.resolve.proofs.check_labels.Statement.{statement}
 use Rattle.resolve.proofs.check_labels.Tie as tie
 
 abbrev Inv-loop : tie.InvT-loop
-Inv-loop listing marks count sizes rows row-numbers start₀ n₀ start n = (done : List Instr) × Gone listing marks count n start done
+Inv-loop listing marks count sizes rows row-numbers start₀ n₀ start n = (done : List Instr) × Gone (resolvePass marks) listing count n start done
 
 abbrev μ-loop : tie.MeasureT-loop
 μ-loop listing marks count sizes rows row-numbers start₀ n₀ start n = count - n

@@ -3,7 +3,7 @@ use Prim.Native.Nat.{_-_, _≤_}
 use mathlib.Core.Path.{_≡_}
 use lib.ListN.{length}
 use lib.Seq.{paste}
-use Rattle.resolve.proofs.PassLaws.{copy-next, copy-end}
+use Rattle.resolve.proofs.Passes.{copy-next, copy-end}
 use borrow.Author.Needs.{needs}
 use native.Mathlib.Omega.{arith}
 use Rattle.resolve.proofs.copy_listing.Statement.{statement}

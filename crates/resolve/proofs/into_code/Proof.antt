@@ -4,14 +4,15 @@ use mathlib.Core.Path.{refl, _∙_}
 use Rattle.definitions.specs.Tag.{rows}
 use Rattle.instr.proofs.TableLaws.{theRows, theNumbers, few}
 use Rattle.resolve.proofs.LabelLaws.{size-at, row-in-tables, unlabelled}
-use Rattle.resolve.proofs.PassLaws.{Coding, coding-start, coding-plain, coding-labels, coding-end, accepts}
+use Rattle.resolve.proofs.Passes.{Coding, coding-start, coding-plain, coding-labels, coding-end, accepts}
+use Rattle.resolve.proofs.PassLaws.{resolvePass}
 use borrow.Author.Needs.{needs}
 use native.Mathlib.Omega.{arith}
 use Rattle.resolve.proofs.into_code.Statement.{statement}
 use Rattle.resolve.proofs.into_code.Tie as tie
 
 abbrev Inv-loop : tie.InvT-loop
-Inv-loop listing marks count out₀ rows row-numbers virtual-offset₀ n₀ out virtual-offset n = Coding listing marks count n virtual-offset out₀ out
+Inv-loop listing marks count out₀ rows row-numbers virtual-offset₀ n₀ out virtual-offset n = Coding (resolvePass marks) listing count n virtual-offset out₀ out
 
 abbrev μ-loop : tie.MeasureT-loop
 μ-loop listing marks count out₀ rows row-numbers virtual-offset₀ n₀ out virtual-offset n = count - n

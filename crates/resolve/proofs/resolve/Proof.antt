@@ -1,23 +1,27 @@
 -- 30, then 31 and 32, then 20, then all is written.
 use mathlib.Core.Path.{_∙_}
 use Rattle.resolve.specs.Values.{resolving}
-use Rattle.resolve.proofs.PassLaws.{answer-30, passes, accepts, answer-labels, answer-20, ready, answer-done}
+use Rattle.definitions.specs.Resolve.{resolve}
+use Rattle.resolve.proofs.Passes.{answer-30, passes, accepts, answer-labels, answer-20, ready, answer-done}
+use Rattle.resolve.proofs.PassLaws.{resolvePass}
 use native.Mathlib.Omega.{arith}
 use borrow.Author.Needs.{needs}
 use Rattle.resolve.proofs.resolve.Statement.{statement}
 use Rattle.resolve.proofs.resolve.Tie as tie
 
 returns : tie.Need-returns
-returns c = answer-30 _ _ _ _ _ (c .enum-told .given .1) (c .before .before .check-listing .ensures)
+unfolding resolve
+returns c = answer-30 (resolvePass _) _ _ _ _ (c .enum-told .given .1) (c .before .before .check-listing .ensures)
 
 check-labels-requires : tie.Need-check-labels-requires
 check-labels-requires c κs = passes _ _ _ (c .before .count .given .1) (c .before .before .before .check-listing .ensures)
 
 returns-2 : tie.Need-returns-2
+unfolding resolve
 returns-2 c =
     let labels = c .before .before in
     let listing = labels .before .before in
-    answer-labels _ _ _ (passes _ _ _ (listing .count .given .1) (listing .before .before .check-listing .ensures)) _ (labels .check-labels .ensures) _ _ _ (c .enum-told3 .given .1)
+    answer-labels (resolvePass _) _ _ (passes _ _ _ (listing .count .given .1) (listing .before .before .check-listing .ensures)) _ (labels .check-labels .ensures) _ _ _ (c .enum-told3 .given .1)
 
 mul-if1 : tie.Need-mul-if1
 mul-if1 c =
@@ -30,11 +34,12 @@ add-if1 c =
     omega (arith, accepts (passes _ _ _ (listing .count .given .1) (listing .before .before .check-listing .ensures)) .few)
 
 returns-3 : tie.Need-returns-3
+unfolding resolve
 returns-3 c =
     let told = c .before in
     let labels = told .before .before in
     let listing = labels .before .before in
-    answer-20 _ _ _ (passes _ _ _ (listing .count .given .1) (listing .before .before .check-listing .ensures)) _ (labels .check-labels .ensures) _ (told .enum-told2 .given .1) _ (c .if1 .taken)
+    answer-20 (resolvePass _) _ _ (passes _ _ _ (listing .count .given .1) (listing .before .before .check-listing .ensures)) _ (labels .check-labels .ensures) _ (told .enum-told2 .given .1) _ (c .if1 .taken)
 
 into-code-requires : tie.Need-into-code-requires
 into-code-requires c κs =
@@ -42,17 +47,17 @@ into-code-requires c κs =
     let labels = told .before .before in
     let listing = labels .before .before in
     let pass = passes _ _ _ (listing .count .given .1) (listing .before .before .check-listing .ensures) in
-    (pass, c .before .if1 .left, ready _ _ _ pass _ (labels .check-labels .ensures) _ (told .enum-told2 .given .1))
+    (pass, c .before .if1 .left, ready (resolvePass _) _ _ pass _ (labels .check-labels .ensures) _ (told .enum-told2 .given .1))
 
 returns-4 : tie.Need-returns-4
-unfolding resolving
+unfolding resolving resolve
 returns-4 c =
     let coded = c .before .before in
     let told = coded .before .before .before in
     let labels = told .before .before in
     let listing = labels .before .before in
     coded .into-code .ensures
-    ∙ answer-done _ _ _ (passes _ _ _ (listing .count .given .1) (listing .before .before .check-listing .ensures)) _ (labels .check-labels .ensures) _ (told .enum-told2 .given .1) _ (coded .before .before .if1 .left)
+    ∙ answer-done (resolvePass _) _ _ (passes _ _ _ (listing .count .given .1) (listing .before .before .check-listing .ensures)) _ (labels .check-labels .ensures) _ (told .enum-told2 .given .1) _ (coded .before .before .if1 .left)
 
 pub resolve-spec : {M : Type 1} → statement M
 resolve-spec = tie.close (tie.spec (λ c κs. search needs) (λ c. search needs) (λ c. search needs) returns
