@@ -39,6 +39,18 @@ bool delzhomo_view(const uint8_t *listing, size_t listing_length, size_t number,
 bool delzhomo_strip(const uint8_t *unit, size_t unit_length, uint8_t *out, size_t out_length, size_t *first, size_t *second,
                     size_t *third);
 
+/* What the game's loader stores of a listing with distances, into out: how many records. Jump, JumpIfFalse, Skip, Context, InvokeStatic
+ * and InvokeVirtual have first less 3, Conditional and SwitchLabel first less 3 and second less 5, Switch first less 11; all else is
+ * copied. A field that leaves 16 bits by this is refused with 33: the record's number, and 0 for first or 1 for second. What
+ * delzhomo_resolve makes of a lowered unit is never refused with 33. */
+bool delzhomo_store(const uint8_t *listing, size_t listing_length, uint8_t *out, size_t out_length, size_t *first, size_t *second,
+                    size_t *third);
+
+/* The way back: the listing with distances of a stored one, into out: how many records. It is refused as storing is; each undoes the
+ * other on all that it takes. */
+bool delzhomo_restore(const uint8_t *listing, size_t listing_length, uint8_t *out, size_t out_length, size_t *first, size_t *second,
+                      size_t *third);
+
 #ifdef __cplusplus
 }
 #endif

@@ -44,6 +44,44 @@ static void strip(void) {
     expect("behind the stripped", all(stripped + sizeof loop, 3, 0xA5));
 }
 
+/* The first of a record, as a signed number. */
+static int first_of(const uint8_t *listing, size_t number) {
+    const uint8_t *field = listing + FRONT + number * RECORD + 2;
+    int bits = field[0] * 256 + field[1];
+    return bits < 32768 ? bits : bits - 65536;
+}
+
+/* A Jump's first is set to what leaves 16 bits: the lowest number when it is stored, the highest when it is restored. */
+static void store_too_far(const uint8_t *code) {
+    uint8_t far[LENGTH], out[LENGTH];
+    memcpy(far, code, LENGTH);
+    memset(out, 0xA5, LENGTH);
+    memcpy(far + FRONT + 3 * RECORD + 2, "\x80\x00", 2);
+    expect("store, a field too low", !delzhomo_store(far, LENGTH, out, LENGTH, &a, &b, &c) && are(33, 3, 0));
+    memcpy(far + FRONT + 2 * RECORD + 2, "\x7F\xFF", 2);
+    expect("restore, a field too high", !delzhomo_restore(far, LENGTH, out, LENGTH, &a, &b, &c) && are(33, 2, 0));
+    expect("these leave the out too", all(out, LENGTH, 0xA5));
+}
+
+static void store(const uint8_t *code) {
+    uint8_t stored[LENGTH + 3], again[LENGTH + 3];
+    memset(stored, 0xA5, sizeof stored);
+    memset(again, 0xA5, sizeof again);
+    expect("store, no listing", !delzhomo_store(code, LENGTH - 1, stored, sizeof stored, &a, &b, &c) && are(30, 0, 0));
+    expect("store, a byte short", !delzhomo_store(code, LENGTH, stored, LENGTH - 1, &a, &b, &c) && are(20, 0, 0));
+    expect("a refusal leaves the stored", all(stored, sizeof stored, 0xA5));
+    expect("store", delzhomo_store(code, LENGTH, stored, sizeof stored, &a, &b, &c) && are(4, 0, 0));
+    expect("7, 3 and -10 are stored", first_of(stored, 0) == 7 && first_of(stored, 2) == 3 && first_of(stored, 3) == -10);
+    expect("behind the stored", all(stored + LENGTH, 3, 0xA5));
+    expect("restore, no listing", !delzhomo_restore(stored, LENGTH - 1, again, sizeof again, &a, &b, &c) && are(30, 0, 0));
+    expect("restore, a byte short", !delzhomo_restore(stored, LENGTH, again, LENGTH - 1, &a, &b, &c) && are(20, 0, 0));
+    expect("a refusal leaves the restored", all(again, sizeof again, 0xA5));
+    expect("restore", delzhomo_restore(stored, LENGTH, again, sizeof again, &a, &b, &c) && are(4, 0, 0));
+    expect("the same code again", memcmp(again, code, LENGTH) == 0);
+    expect("behind the restored", all(again + LENGTH, 3, 0xA5));
+    store_too_far(code);
+}
+
 int main(void) {
     uint8_t listing[LENGTH + 3], code[LENGTH + 3];
     uint32_t marks[3] = {7, 7, 7};
@@ -69,6 +107,7 @@ int main(void) {
     expect("the last distance is -7", last[2] == 0xFF && last[3] == 0xF9);
     expect("its node is the While at 10", last[18] == 0 && last[19] == 0 && last[20] == 0 && last[21] == 10);
     strip();
+    store(code);
     if (failures == 0) printf("calls.c: every call answers as it should\n");
     return failures != 0;
 }

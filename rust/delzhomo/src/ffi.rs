@@ -66,6 +66,26 @@ unsafe extern "C" {
         second: *mut usize,
         third: *mut usize,
     ) -> bool;
+
+    fn delzhomo_store(
+        listing: *const u8,
+        listing_length: usize,
+        out: *mut u8,
+        out_length: usize,
+        first: *mut usize,
+        second: *mut usize,
+        third: *mut usize,
+    ) -> bool;
+
+    fn delzhomo_restore(
+        listing: *const u8,
+        listing_length: usize,
+        out: *mut u8,
+        out_length: usize,
+        first: *mut usize,
+        second: *mut usize,
+        third: *mut usize,
+    ) -> bool;
 }
 
 pub(crate) fn measure(unit: &[u8]) -> Result<Totals, Refusal> {
@@ -155,13 +175,37 @@ pub(crate) fn view(listing: &[u8], number: usize) -> Result<Range<usize>, Refusa
 }
 
 pub(crate) fn strip(unit: &[u8], out: &mut [u8]) -> Result<usize, Refusal> {
+    written(delzhomo_strip, unit, out)
+}
+
+pub(crate) fn store(listing: &[u8], out: &mut [u8]) -> Result<usize, Refusal> {
+    written(delzhomo_store, listing, out)
+}
+
+pub(crate) fn restore(listing: &[u8], out: &mut [u8]) -> Result<usize, Refusal> {
+    written(delzhomo_restore, listing, out)
+}
+
+/// A function that reads one slice and writes another.
+type Writer = unsafe extern "C" fn(
+    *const u8,
+    usize,
+    *mut u8,
+    usize,
+    *mut usize,
+    *mut usize,
+    *mut usize,
+) -> bool;
+
+/// How many bytes or records it has written.
+fn written(writer: Writer, read: &[u8], out: &mut [u8]) -> Result<usize, Refusal> {
     let [mut first, mut second, mut third] = [0; 3];
     // SAFETY: each pointer goes with the length of its own slice; only `out` is written, and it is borrowed mutably, so that it does
-    // not overlap the unit; the numbers are three locals of their own.
+    // not overlap the other; the numbers are three locals of their own. `writer` is one of the library's three of this form.
     let done = unsafe {
-        delzhomo_strip(
-            unit.as_ptr(),
-            unit.len(),
+        writer(
+            read.as_ptr(),
+            read.len(),
             out.as_mut_ptr(),
             out.len(),
             &mut first,
@@ -169,7 +213,7 @@ pub(crate) fn strip(unit: &[u8], out: &mut [u8]) -> Result<usize, Refusal> {
             &mut third,
         )
     };
-    accepted(done, [first, second, third]).map(|[bytes, _, _]| bytes)
+    accepted(done, [first, second, third]).map(|[count, _, _]| count)
 }
 
 fn totals(done: bool, numbers: [usize; 3]) -> Result<Totals, Refusal> {

@@ -35,6 +35,7 @@ mod kind;
 mod listing;
 mod path;
 mod refusal;
+mod stored;
 pub mod tag;
 pub mod tree;
 mod unit;
@@ -45,6 +46,7 @@ pub use kind::Kind;
 pub use listing::{Instruction, Instructions, Label, Labelled, Listing, Loc, listing_length};
 pub use path::{Nodes, Step, path_text};
 pub use refusal::{Place, Refusal};
+pub use stored::{Stored, StoredField};
 pub use tag::Tag;
 pub use tree::{Block, Case, ConditionalBlock, Expr, Script, Stmt};
 pub use unit::{HexError, HexFault, Unit};
@@ -150,4 +152,16 @@ pub fn view(listing: &[u8], number: usize) -> Result<&[u8], Refusal> {
 /// of a unit.
 pub fn strip_into(unit: impl AsRef<[u8]>, out: &mut [u8]) -> Result<usize, Refusal> {
     ffi::strip(unit.as_ref(), out)
+}
+
+/// Stores a resolved listing as the loader does, into a lent buffer, and says how many records it has: each distance less a number
+/// that goes by the instruction. A field that this takes out of 16 bits is refused with 33; no listing that was made of a unit has
+/// one. Bytes behind the listing stay as they were, and so does everything if it is refused. [`Listing::stored`] has the numbers.
+pub fn store_into(listing: &[u8], out: &mut [u8]) -> Result<usize, Refusal> {
+    ffi::store(listing, out)
+}
+
+/// The way back from [`store_into`]: the resolved listing of a stored one. Each undoes the other on all that it takes.
+pub fn restore_into(listing: &[u8], out: &mut [u8]) -> Result<usize, Refusal> {
+    ffi::restore(listing, out)
 }

@@ -29,13 +29,14 @@ pub fn listing_length(records: usize) -> usize {
 #[derive(Debug, Clone, Copy, PartialEq, Eq, PartialOrd, Ord, Hash)]
 pub struct Label(pub u16);
 
-/// What a label field of a record holds: a distance (`i16`) in a resolved listing, a [`Label`] before.
+/// What a label field of a record holds: a distance (`i16`) in a resolved listing, a [`Label`] before, a
+/// [`StoredField`](crate::StoredField) in a stored one.
 pub trait Loc: Copy + sealed::FromBits {}
 
 impl Loc for i16 {}
 impl Loc for Label {}
 
-mod sealed {
+pub(crate) mod sealed {
     use super::Label;
 
     /// From the field's bits; and the number that is printed.
@@ -210,7 +211,7 @@ impl<L: Loc> ExactSizeIterator for Instructions<'_, L> {}
 
 /// Records that all have a known tag.
 #[derive(Debug, Clone, Copy)]
-struct Records<'a> {
+pub(crate) struct Records<'a> {
     bytes: &'a [u8],
     records: &'a [[u8; RECORD]],
 }
@@ -218,19 +219,30 @@ struct Records<'a> {
 impl<'a> Records<'a> {
     /// The records up to the first whose tag is unknown.
     fn new(bytes: &'a [u8]) -> Self {
-        let (records, _part) = bytes.get(FRONT..).unwrap_or_default().as_chunks();
-        let known = records
+        let all = Self::checked(bytes);
+        let known = all
+            .records
             .iter()
             .take(MAX_RECORDS)
             .take_while(|record| Tag::new(record[0]).is_some())
             .count();
         Self {
             bytes,
-            records: &records[..known],
+            records: &all.records[..known],
         }
     }
 
-    fn iter<L>(&self) -> Instructions<'a, L> {
+    /// All records of bytes that the library has found to be a listing, so that no tag need be looked at again.
+    pub(crate) fn checked(bytes: &'a [u8]) -> Self {
+        let (records, _part) = bytes.get(FRONT..).unwrap_or_default().as_chunks();
+        Self { bytes, records }
+    }
+
+    pub(crate) fn len(&self) -> usize {
+        self.records.len()
+    }
+
+    pub(crate) fn iter<L>(&self) -> Instructions<'a, L> {
         Instructions {
             records: self.records.iter(),
             index: 0,
@@ -239,12 +251,12 @@ impl<'a> Records<'a> {
         }
     }
 
-    fn size(&self) -> u32 {
+    pub(crate) fn size(&self) -> u32 {
         self.iter::<i16>().last().map_or(0, |last| last.end())
     }
 
-    fn print<L: Loc>(&self, word: &str, f: &mut fmt::Formatter<'_>) -> fmt::Result {
-        writeln!(f, "{word} {} {}", self.records.len(), self.size())?;
+    pub(crate) fn print<L: Loc>(&self, word: &str, f: &mut fmt::Formatter<'_>) -> fmt::Result {
+        writeln!(f, "{word} {} {}", self.len(), self.size())?;
         self.iter::<L>()
             .try_for_each(|instruction| writeln!(f, "{instruction}"))
     }
@@ -278,7 +290,7 @@ impl<'a> Listing<'a> {
 
     /// How many instructions it has.
     pub fn len(&self) -> usize {
-        self.records.records.len()
+        self.records.len()
     }
 
     /// Whether it has none.
@@ -352,7 +364,7 @@ impl<'a> Labelled<'a> {
 
     /// How many instructions it has.
     pub fn len(&self) -> usize {
-        self.records.records.len()
+        self.records.len()
     }
 
     /// Whether it has none.

@@ -6,7 +6,7 @@ use std::fmt;
 /// Why a unit or a listing is refused. `Display` says it in a sentence, [`Refusal::line`] in document 01's form.
 #[derive(Debug, Clone, Copy, PartialEq, Eq, Hash)]
 pub struct Refusal {
-    /// Which check refused: 1 to 5 reading a unit, 10 to 15 the walk, 20 and 21 buffers, 22 the viewer, 30 to 32 listings.
+    /// Which check refused: 1 to 5 reading a unit, 10 to 15 the walk, 20 and 21 buffers, 22 the viewer, 30 to 33 listings.
     pub number: usize,
     /// Where: see [`Refusal::place`].
     pub place: usize,
@@ -30,7 +30,7 @@ impl Refusal {
     pub fn place(&self) -> Place {
         match self.number {
             2..=5 | 10..=15 => Place::Unit(self.place),
-            22 | 31 | 32 => Place::Record(self.place),
+            22 | 31..=33 => Place::Record(self.place),
             _ => Place::Whole,
         }
     }
@@ -45,7 +45,7 @@ impl Refusal {
         matches!(self.number, 20 | 21)
     }
 
-    /// Which label field of a record 31 and 32 are about.
+    /// Which label field of a record 31 to 33 are about.
     fn label_field(&self) -> &'static str {
         if self.extra == 0 { "first" } else { "second" }
     }
@@ -115,6 +115,11 @@ impl fmt::Display for Refusal {
             32 => write!(
                 f,
                 "the {} jump of record {place} lands too far away, beyond 16 bits: shorten what lies between",
+                self.label_field()
+            ),
+            33 => write!(
+                f,
+                "the {} jump of record {place} leaves 16 bits when it is stored or restored; no listing that was made of a unit has such a jump",
                 self.label_field()
             ),
             _ => write!(

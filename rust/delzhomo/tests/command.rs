@@ -6,7 +6,10 @@ use std::io::Write;
 use std::path::Path;
 use std::process::{Command, Stdio};
 
-use common::{WHILE_FALSE, WHILE_FALSE_CODE, hex, repository};
+use common::{
+    WHILE_FALSE, WHILE_FALSE_CODE, WHILE_FALSE_NODES, hex, listing_of, listing_with, repository,
+};
+use delzhomo::Unit;
 
 struct Ran {
     status: i32,
@@ -215,6 +218,65 @@ fn a_stripped_unit_is_printed_as_a_unit() {
     assert_eq!((ran.status, ran.text()), (0, "02 0A\n"));
 }
 
+const STORED: &str = "\
+stored 4 10
+0 20 0 7 0 0 0 0000000000000000
+3 14 0 0 0 0 0 0000000000000000
+4 1F 0 3 0 0 0 0000000000000000
+7 1F 0 -10 0 0 0 0000000000000000
+";
+
+#[test]
+fn stored_prints_what_the_loader_stores() {
+    let file = example("while-false");
+    let ran = run(&["stored", &file], b"");
+    assert_eq!((ran.status, ran.text()), (0, STORED));
+    let listing = run(&["stage", "--bytes", &file], b"").stdout;
+    let ran = run(&["stored", "--listing", "-"], &listing);
+    assert_eq!((ran.status, ran.text()), (0, STORED));
+    let bytes = run(&["stored", "--bytes", &file], b"").stdout;
+    assert_eq!(bytes, listing_with(STORED, &WHILE_FALSE_NODES));
+    let of_listing = run(&["stored", "--bytes", "--listing", "-"], &listing);
+    assert_eq!(of_listing.stdout, bytes);
+    let ran = run(&["stored", "--nodes", &file], b"");
+    let last = "7 1F 0 -10 0 0 0 0000000000000000  While at 10";
+    assert_eq!((ran.status, ran.text().lines().last()), (0, Some(last)));
+    let ran = run(&["stored", &example("refused-in-the-walk")], b"");
+    assert_eq!((ran.status, ran.text()), (1, "refused 10 10 0\n"));
+    assert!(ran.stderr.contains("path: Break at 10"), "{}", ran.stderr);
+}
+
+#[test]
+fn restored_is_the_way_back() {
+    let file = example("while-false");
+    let stored = run(&["stored", "--bytes", &file], b"").stdout;
+    let ran = run(&["restored", "-"], &stored);
+    assert_eq!((ran.status, ran.text()), (0, WHILE_FALSE_CODE));
+    let text = Unit::from_bytes(stored.as_slice()).to_hex();
+    let ran = run(&["restored", "-"], text.as_bytes());
+    assert_eq!((ran.status, ran.text()), (0, WHILE_FALSE_CODE));
+    let listing = run(&["restored", "--bytes", "-"], &stored).stdout;
+    assert_eq!(listing, run(&["stage", "--bytes", &file], b"").stdout);
+    let drawn = run(&["draw", "--listing", "-"], &listing);
+    assert_eq!(drawn.stdout, run(&["draw", &file], b"").stdout);
+}
+
+#[test]
+fn what_cannot_be_stored_or_restored_is_refused() {
+    let with_last = |first: &str| listing_of(&WHILE_FALSE_CODE.replace("-7", first));
+    let ran = run(&["stored", "--listing", "-"], &with_last("-32768"));
+    assert_eq!((ran.status, ran.text()), (1, "refused 33 3 0\n"));
+    assert!(ran.stderr.contains("first jump of record 3"));
+    let ran = run(&["restored", "-"], &with_last("32767"));
+    assert_eq!((ran.status, ran.text()), (1, "refused 33 3 0\n"));
+    assert!(ran.stderr.contains("first jump of record 3"));
+    // a unit is no listing
+    let ran = run(&["restored", &example("while-false")], b"");
+    assert_eq!((ran.status, ran.text()), (1, "refused 30 0 0\n"));
+    let ran = run(&["stored", "--listing", &example("while-false")], b"");
+    assert_eq!((ran.status, ran.text()), (1, "refused 30 0 0\n"));
+}
+
 #[test]
 fn draw_has_arrows() {
     let ran = run(&["draw", "--ascii", &example("while-false")], b"");
@@ -233,7 +295,7 @@ fn draw_has_arrows() {
 #[test]
 fn wrong_usage_and_files() {
     let file = example("while-false");
-    let wrong: [&[&str]; 16] = [
+    let wrong: [&[&str]; 22] = [
         &[],
         &["stage"],
         &["view", &file],
@@ -250,6 +312,12 @@ fn wrong_usage_and_files() {
         &["draw", "--nodes", "--listing", &file],
         &["strip", "--nodes", &file],
         &["strip", "--listing", &file],
+        &["stored", "--nodes", "--bytes", &file],
+        &["stored", "--nodes", "--listing", &file],
+        &["stored", "--ascii", &file],
+        &["restored", "--nodes", &file],
+        &["restored", "--listing", &file],
+        &["restored", &file, "0"],
     ];
     for words in wrong {
         let ran = run(words, b"");
@@ -270,8 +338,12 @@ fn help_names_every_command() {
     let ran = run(&["--help"], b"");
     assert_eq!(ran.status, 0);
     for word in [
-        "stage", "labelled", "check", "view", "draw", "strip", "--hex", "--raw", "--nodes",
+        "stage", "labelled", "stored", "restored", "check", "view", "draw", "strip",
     ] {
-        assert!(ran.text().contains(word));
+        let line = format!("\n  {word} FILE ");
+        assert!(ran.text().contains(&line), "{word}");
+    }
+    for word in ["--hex", "--raw", "--listing", "--bytes", "--nodes"] {
+        assert!(ran.text().contains(word), "{word}");
     }
 }

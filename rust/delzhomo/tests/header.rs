@@ -51,11 +51,13 @@ fn declarations_agree() {
     let names: Vec<&str> = in_c.iter().map(|(name, _)| name.as_str()).collect();
     assert_eq!(
         names,
-        ["measure", "lower", "resolve", "check", "view", "strip"]
+        [
+            "measure", "lower", "resolve", "check", "view", "strip", "store", "restore"
+        ]
     );
     assert_eq!(in_c, in_rust);
     let counts: Vec<usize> = in_c.iter().map(|(_, all)| all.len()).collect();
-    assert_eq!(counts, [5, 9, 9, 5, 6, 7]);
+    assert_eq!(counts, [5, 9, 9, 5, 6, 7, 7, 7]);
     // each answers with a bool
     assert_eq!(header.matches("\nbool delzhomo_").count(), in_c.len());
     assert_eq!(declared.matches(") -> bool;").count(), in_rust.len());
@@ -67,7 +69,8 @@ fn every_call_has_its_reason_and_no_other_file_is_unsafe() {
     assert_eq!(ffi.matches("// SAFETY:").count(), 6);
     assert_eq!(ffi.matches("unsafe {").count(), 6);
     for file in [
-        "lib", "draw", "encode", "kind", "listing", "path", "refusal", "tag", "tree", "unit",
+        "lib", "draw", "encode", "kind", "listing", "path", "refusal", "stored", "tag", "tree",
+        "unit",
     ] {
         let text = text_of(&format!("rust/delzhomo/src/{file}.rs"));
         assert!(!text.contains("unsafe {"), "{file}");

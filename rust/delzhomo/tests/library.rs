@@ -4,7 +4,7 @@ mod common;
 
 use common::{
     WHILE_FALSE_CODE, WHILE_FALSE_NODES, call, every_const, every_stmt, listing_of, listing_with,
-    nested_blocks, recorded, script, text_of,
+    nested_blocks, nops_in_a_loop, recorded, refusal, text_of, unit, while_false,
 };
 use delzhomo::tree::*;
 use delzhomo::{
@@ -12,24 +12,8 @@ use delzhomo::{
     check, listing_length, lower_into, measure, path_text, resolve_into, strip_into, view,
 };
 
-fn refusal(number: usize, place: usize, extra: usize) -> Refusal {
-    Refusal {
-        number,
-        place,
-        extra,
-    }
-}
-
-fn unit(stmts: impl Into<Vec<Stmt>>) -> Unit {
-    script(stmts).encode().unwrap()
-}
-
 fn hex_unit(digits: &str) -> Unit {
     Unit::from_hex(digits).unwrap()
-}
-
-fn while_false() -> Unit {
-    hex_unit(common::WHILE_FALSE)
 }
 
 fn example(name: &str) -> Unit {
@@ -256,11 +240,6 @@ fn flagged(index: usize) -> Unit {
     let mut args = vec![Expr::Nop; index];
     args.push(as_ref);
     unit([Expr::FreeCall(call(index + 1, args)).into()])
-}
-
-fn nops_in_a_loop(count: usize) -> Unit {
-    let nops = vec![Stmt::Expr(Expr::Nop); count];
-    unit([Stmt::While(ConditionalBlock::new(Expr::bool(false), nops))])
 }
 
 fn wrong_types() -> Unit {

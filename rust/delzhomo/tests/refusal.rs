@@ -4,8 +4,8 @@ use std::collections::BTreeSet;
 
 use delzhomo::{Place, Refusal};
 
-const NUMBERS: [usize; 17] = [
-    1, 2, 3, 4, 5, 10, 11, 12, 13, 14, 15, 20, 21, 22, 30, 31, 32,
+const NUMBERS: [usize; 18] = [
+    1, 2, 3, 4, 5, 10, 11, 12, 13, 14, 15, 20, 21, 22, 30, 31, 32, 33,
 ];
 
 fn refusal(number: usize) -> Refusal {
@@ -34,6 +34,22 @@ fn a_sentence_names_the_place_if_there_is_one() {
         let refusal = refusal(number);
         let named = refusal.to_string().contains("1234");
         assert_eq!(named, refusal.place() != Place::Whole, "{refusal}");
+    }
+}
+
+#[test]
+fn a_sentence_about_a_label_field_names_it() {
+    for number in [31, 32, 33] {
+        let names = [0, 1].map(|extra| {
+            let refusal = Refusal {
+                extra,
+                ..refusal(number)
+            };
+            assert_eq!(refusal.place(), Place::Record(1234));
+            let sentence = refusal.to_string();
+            ["first", "second"].map(|name| sentence.contains(&format!("the {name} ")))
+        });
+        assert_eq!(names, [[true, false], [false, true]], "{number}");
     }
 }
 

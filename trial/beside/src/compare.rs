@@ -1,20 +1,15 @@
 //! A unit given to the library and to the published assembler.
 
-use delzhomo::{Assembler, lower_into, measure, resolve_into};
+use delzhomo::{Assembler, lower_into, measure, resolve_into, restore_into, store_into};
 use oracle::answer::Stop;
 
 use crate::difference::{Compared, Difference, holds, refusal, same, stopped};
 use crate::lent::Lent;
-use crate::published::{self, Made};
+use crate::listing::{KEPT, NODE, same_listing, written};
+use crate::published::{self, Code, Made};
 use crate::run::Trial;
+use crate::stored::model::Carried;
 use crate::tally::Tally;
-
-pub(crate) const FRONT: usize = 5;
-pub(crate) const RECORD: usize = 22;
-
-/// Where a record's last field begins, the node that emitted it. The published assembler has no such field: of a lowered listing it is
-/// left out.
-pub(crate) const NODE: usize = 18;
 
 /// What is lent beyond what a unit takes.
 pub(crate) const SPARE_BYTES: usize = 40;
@@ -34,6 +29,8 @@ pub struct Amount {
     /// Records and distances of the resolved one.
     pub resolved: usize,
     pub distances: usize,
+    /// Fields of the stored one.
+    pub stored: Carried,
     /// The tags that occur, a bit for each.
     pub tags: u128,
 }
@@ -71,7 +68,7 @@ impl Library {
         match published::assemble(unit) {
             Ok(made) => {
                 self.compare_lowered(unit, &made)?;
-                self.compare_resolved(&made)?;
+                self.compare_code(&made, made.listing.len() + SPARE_BYTES)?;
                 if rooms {
                     self.compare_rooms(unit, &made)?;
                 }
@@ -115,27 +112,23 @@ impl Library {
         self.kept_lowered("lower", length, labels)
     }
 
-    /// The published listing and marks are resolved, so that this does not hang on lowering.
-    fn compare_resolved(&mut self, made: &Made) -> Compared<()> {
-        match &made.resolved {
-            Ok(expected) => self.resolve(made, expected, SPARE_BYTES),
-            Err(expected) => {
-                let code = self.code.lend(made.listing.len() + SPARE_BYTES);
-                let found = resolve_into(&made.listing, &made.marks, code);
-                same("resolve", found, Err(refusal(*expected)))?;
-                self.kept_code("resolve", 0)
-            }
-        }
-    }
-
-    /// Resolves with so much room to spare.
-    pub(crate) fn resolve(&mut self, made: &Made, expected: &[u8], bytes: usize) -> Compared<()> {
-        let code = self.code.lend(expected.len() + bytes);
-        let found = resolve_into(&made.listing, &made.marks, code);
-        same("resolve", found, Ok(made.totals.records))?;
-        let code = self.code.first(expected.len());
-        same_listing("resolve", code, expected, RECORD)?;
-        self.kept_code("resolve", expected.len())
+    /// Resolves, stores and restores into so many bytes. Each is given the published listing, so that none hangs on another, nor on
+    /// lowering.
+    pub(crate) fn compare_code(&mut self, made: &Made, room: usize) -> Compared<()> {
+        let out = &mut self.code;
+        let resolved = match &made.code {
+            Ok(code) => Ok(&code.resolved[..]),
+            Err(distant) => Err(refusal(*distant)),
+        };
+        let resolve = |out: &mut [u8]| resolve_into(&made.listing, &made.marks, out);
+        written("resolve", out, room, resolved, resolve)?;
+        let Ok(Code { resolved, stored }) = &made.code else {
+            return Ok(());
+        };
+        let store = |out: &mut [u8]| store_into(resolved, out);
+        written("store", out, room, Ok(stored), store)?;
+        let restore = |out: &mut [u8]| restore_into(stored, out);
+        written("restore", out, room, Ok(resolved), restore)
     }
 
     pub(crate) fn kept_lowered(
@@ -145,25 +138,12 @@ impl Library {
         words: usize,
     ) -> Compared<()> {
         let listing = self.listing.is_kept_from(bytes);
-        holds(
-            asked,
-            listing,
-            "bytes past the listing, after a refusal all, stay as they were",
-        )?;
+        holds(asked, listing, KEPT)?;
         let marks = self.marks.is_kept_from(words);
         holds(
             asked,
             marks,
             "words past the last label, after a refusal all, stay as they were",
-        )
-    }
-
-    pub(crate) fn kept_code(&self, asked: &'static str, bytes: usize) -> Compared<()> {
-        let code = self.code.is_kept_from(bytes);
-        holds(
-            asked,
-            code,
-            "bytes past the listing, after a refusal all, stay as they were",
         )
     }
 }
@@ -180,16 +160,22 @@ impl Trial for Library {
 }
 
 fn outcome(made: &Made) -> Outcome {
-    let (answer, resolved, distances) = match &made.resolved {
-        Ok(_) => (Answer::Code, made.totals.records, made.distances),
-        Err(refusal) => (Answer::Refused(refusal.number), 0, 0),
-    };
-    let amount = Amount {
+    let mut amount = Amount {
         labelled: made.totals.records,
         marks: made.marks.len(),
-        resolved,
-        distances,
+        resolved: 0,
+        distances: 0,
+        stored: Carried::default(),
         tags: made.tags,
+    };
+    let answer = match &made.code {
+        Ok(code) => {
+            amount.resolved = made.totals.records;
+            amount.distances = made.distances;
+            amount.stored.add_listing(&code.stored);
+            Answer::Code
+        }
+        Err(refusal) => Answer::Refused(refusal.number),
     };
     Outcome {
         answer,
@@ -207,66 +193,6 @@ fn stopped_outcome(stop: Stop) -> Outcome {
         answer,
         amount: None,
     }
-}
-
-/// The bytes of two listings of the same length, of each record so many; of a difference the first record is told.
-fn same_listing(
-    asked: &'static str,
-    library: &[u8],
-    published: &[u8],
-    compared: usize,
-) -> Compared<()> {
-    let Some(record) = first_difference(library, published, compared) else {
-        return Ok(());
-    };
-    Err(Difference {
-        asked,
-        library: record_text(library, record),
-        expected: record_text(published, record),
-    })
-}
-
-/// Whether two listings are the same but for the nodes of their records.
-pub(crate) fn same_but_for_nodes(library: &[u8], published: &[u8]) -> bool {
-    library.len() == published.len() && first_difference(library, published, NODE).is_none()
-}
-
-/// The first record that differs in its first so many bytes, or the front.
-fn first_difference(library: &[u8], published: &[u8], compared: usize) -> Option<Option<usize>> {
-    let (front, records) = library.split_at(FRONT);
-    let (other_front, others) = published.split_at(FRONT);
-    if front != other_front {
-        return Some(None);
-    }
-    let mut pairs = records
-        .chunks_exact(RECORD)
-        .zip(others.chunks_exact(RECORD));
-    let differs = |(a, b): (&[u8], &[u8])| a[..compared] != b[..compared];
-    pairs.position(differs).map(Some)
-}
-
-/// A record's fields in hexadecimal, or the front.
-pub(crate) fn record_text(listing: &[u8], record: Option<usize>) -> String {
-    let Some(number) = record else {
-        return format!("front {:02X?}", &listing[..FRONT]);
-    };
-    let bytes = &listing[FRONT + RECORD * number..][..RECORD];
-    let field = |from: usize, to: usize| -> String {
-        let digits = bytes[from..to].iter().map(|byte| format!("{byte:02X}"));
-        digits.collect()
-    };
-    let fields = [
-        (0, 1),
-        (1, 2),
-        (2, 4),
-        (4, 6),
-        (6, 8),
-        (8, 10),
-        (10, 18),
-        (18, 22),
-    ];
-    let fields = fields.map(|(from, to)| field(from, to));
-    format!("record {number} is {}", fields.join(" "))
 }
 
 pub(crate) fn same_marks(library: &[u32], published: &[u32]) -> Compared<()> {

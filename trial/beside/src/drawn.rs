@@ -1,4 +1,4 @@
-//! The units that were drawn and the answers to them, in figures.
+//! The units or listings that were drawn and the answers to them, in figures.
 
 use std::collections::BTreeMap;
 use std::fmt;
@@ -36,22 +36,18 @@ impl Drawn {
         format!("{}; longer: {longer}", joined(sizes))
     }
 
+    /// How many there were, by this name.
+    pub fn said(&self, noun: &str) -> String {
+        let Self { units, largest, .. } = self;
+        let distinct = self.distinct();
+        format!("{units} {noun}, {distinct} distinct, the largest of {largest} bytes")
+    }
+
     fn distinct(&self) -> usize {
         let mut hashes = self.hashes.clone();
         hashes.sort_unstable();
         hashes.dedup();
         hashes.len()
-    }
-}
-
-impl fmt::Display for Drawn {
-    fn fmt(&self, f: &mut fmt::Formatter<'_>) -> fmt::Result {
-        let Self { units, largest, .. } = self;
-        let distinct = self.distinct();
-        write!(
-            f,
-            "{units} units, {distinct} distinct, the largest of {largest} bytes"
-        )
     }
 }
 
@@ -79,6 +75,6 @@ impl fmt::Display for Answers {
     }
 }
 
-fn joined(parts: impl Iterator<Item = String>) -> String {
+pub fn joined(parts: impl Iterator<Item = String>) -> String {
     parts.collect::<Vec<_>>().join("; ")
 }

@@ -1,16 +1,20 @@
-//! Gives random units to the built library and to the published assembler, or compares them with themselves stripped. See README.md.
+//! Gives random units to the built library and to the published assembler, or compares them with themselves stripped; or has random
+//! listings stored and restored. See README.md.
 
 mod compare;
 mod difference;
 mod drawn;
 mod lent;
+mod listing;
 mod options;
 mod published;
 mod rooms;
 mod run;
+mod stored;
 mod stripped;
 mod tally;
 
+use std::panic::PanicHookInfo;
 use std::process::ExitCode;
 use std::{env, panic, thread};
 
@@ -28,7 +32,7 @@ fn main() -> ExitCode {
         }
         Err(message) => return fail(&message),
     };
-    silence_label_count();
+    silence_answers();
     let run = thread::Builder::new().stack_size(STACK);
     match run.spawn(move || run::run(&options)).map(|run| run.join()) {
         Ok(Ok(Ok(code))) => code,
@@ -42,13 +46,20 @@ fn fail(message: &str) -> ExitCode {
     ExitCode::FAILURE
 }
 
-/// The panic at the 65,537th label is an answer; any other is told as ever.
-fn silence_label_count() {
+/// Panics that are answers are not told; any other is, as ever.
+fn silence_answers() {
     let tell = panic::take_hook();
     panic::set_hook(Box::new(move |panic| {
-        let message = panic.payload_as_str().unwrap_or_default();
-        if !message.starts_with("label count") {
+        if !is_answer(panic) {
             tell(panic);
         }
     }));
+}
+
+/// That at the 65,537th label, and those where a published `Offset` leaves 16 bits.
+fn is_answer(panic: &PanicHookInfo) -> bool {
+    let message = panic.payload_as_str().unwrap_or_default();
+    let file = panic.location().map_or("", |location| location.file());
+    let in_offset = file.ends_with("instr.rs") && message.ends_with("with overflow");
+    in_offset || message.starts_with("label count")
 }

@@ -6,9 +6,17 @@ use oracle::limits::Limits;
 use oracle::reader::{self, ExtraArguments, Refusal};
 use oracle::record::Record;
 
-const VERSION: u8 = 1;
-const FRONT: usize = 5;
+use crate::listing::{FRONT, put_front};
+
 const TOO_DISTANT: u32 = 32;
+
+/// The two listings of resolved code.
+pub struct Code {
+    /// With distances.
+    pub resolved: Vec<u8>,
+    /// With the fields that are stored of them.
+    pub stored: Vec<u8>,
+}
 
 /// All that is made of a unit that lowers.
 pub struct Made {
@@ -17,8 +25,8 @@ pub struct Made {
     pub listing: Vec<u8>,
     /// The label table.
     pub marks: Vec<u32>,
-    /// The resolved listing, unless some distance is too long.
-    pub resolved: Result<Vec<u8>, Refusal>,
+    /// None if some distance is too long.
+    pub code: Result<Code, Refusal>,
     /// How many distances there are, too long or not.
     pub distances: usize,
     /// The tags that occur, a bit for each.
@@ -30,8 +38,11 @@ pub struct Made {
 pub fn assemble(unit: &[u8]) -> Result<Made, Stop> {
     let read = reader::read(unit, ExtraArguments::Refuse, None);
     let mut program = read.map_err(Stop::Refused)?;
-    let resolved = match answer::stage(&mut program, Limits::REAL) {
-        Ok(code) => Ok(listing(code.len(), code.iter().map(Record::resolved))),
+    let code = match answer::stage(&mut program, Limits::REAL) {
+        Ok(code) => Ok(Code {
+            resolved: listing(code.len(), code.iter().map(Record::resolved)),
+            stored: listing(code.len(), code.iter().map(Record::stored)),
+        }),
         Err(Stop::Refused(refusal)) if refusal.number == TOO_DISTANT => Err(refusal),
         Err(stop) => return Err(stop),
     };
@@ -52,26 +63,25 @@ pub fn assemble(unit: &[u8]) -> Result<Made, Stop> {
         },
         listing,
         marks: labelled.marks,
-        resolved,
+        code,
         distances,
         tags,
     })
 }
 
-fn listing(count: usize, records: impl Iterator<Item = Record>) -> Vec<u8> {
-    let length = listing_length(count);
-    let mut listing = Vec::with_capacity(length);
-    listing.push(VERSION);
-    listing.extend(((length - FRONT) as u32).to_be_bytes());
+pub fn listing(count: usize, records: impl Iterator<Item = Record>) -> Vec<u8> {
+    let mut listing = Vec::with_capacity(listing_length(count));
+    listing.resize(FRONT, 0);
     for (number, record) in records.enumerate() {
         push(&mut listing, &record);
         listing.extend(node(number).to_be_bytes());
     }
+    put_front(&mut listing);
     listing
 }
 
 /// The published assembler says nothing of the node that emitted a record. Each record is given another number, so that it shows if
-/// resolving does not hand it on.
+/// resolving, storing or restoring does not hand it on.
 fn node(number: usize) -> u32 {
     (number as u32).wrapping_mul(0x9E37_79B9)
 }
@@ -88,7 +98,7 @@ fn push(listing: &mut Vec<u8>, record: &Record) {
     listing.extend(record.value.to_be_bytes());
 }
 
-/// The bits of a label number or of a distance.
+/// The bits of a label number, or of a distance, stored or not.
 fn location(value: i64) -> u16 {
     let distance = || i16::try_from(value).map(i16::cast_unsigned);
     let bits = u16::try_from(value).or_else(|_| distance());

@@ -1,12 +1,12 @@
 //! Room that just suffices, and a byte or a word less; the viewer; the crate's own buffers.
 
-use delzhomo::{Assembler, Refusal, check, listing_length, lower_into, resolve_into, view};
+use delzhomo::{Assembler, Refusal, check, listing_length, lower_into, view};
 
-use crate::compare::{Library, same_but_for_nodes};
+use crate::compare::Library;
 use crate::difference::{Compared, holds, refusal, same};
+use crate::listing::{TOO_SHORT, same_but_for_nodes};
 use crate::published::Made;
 
-const LISTING_TOO_SHORT: Refusal = refused(20, 0);
 const TABLE_TOO_SHORT: Refusal = refused(21, 0);
 
 const fn refused(number: usize, place: usize) -> Refusal {
@@ -22,15 +22,13 @@ impl Library {
     pub fn compare_rooms(&mut self, unit: &[u8], made: &Made) -> Compared<()> {
         self.lower(unit, made, 0, 0)?;
         let (length, labels) = (made.listing.len(), made.marks.len());
-        self.short_lower(unit, length - 1, labels, LISTING_TOO_SHORT)?;
+        self.short_lower(unit, length - 1, labels, TOO_SHORT)?;
         if let Some(fewer) = labels.checked_sub(1) {
             self.short_lower(unit, length, fewer, TABLE_TOO_SHORT)?;
-            self.short_lower(unit, length - 1, fewer, LISTING_TOO_SHORT)?;
+            self.short_lower(unit, length - 1, fewer, TOO_SHORT)?;
         }
-        if let Ok(expected) = &made.resolved {
-            self.resolve(made, expected, 0)?;
-        }
-        self.short_resolve(made)?;
+        self.compare_code(made, length)?;
+        self.compare_code(made, length - 1)?;
         compare_views(made)?;
         compare_assembler(&mut Assembler::new(), unit, made)?;
         compare_assembler(&mut self.assembler, unit, made)
@@ -47,18 +45,6 @@ impl Library {
         let found = lower_into(unit, listing, marks);
         same("lower with too little room", found, Err(expected))?;
         self.kept_lowered("lower with too little room", 0, 0)
-    }
-
-    /// A distance that is too long is said before the room.
-    fn short_resolve(&mut self, made: &Made) -> Compared<()> {
-        let expected = match &made.resolved {
-            Ok(_) => LISTING_TOO_SHORT,
-            Err(distant) => refusal(*distant),
-        };
-        let code = self.code.lend(made.listing.len() - 1);
-        let found = resolve_into(&made.listing, &made.marks, code);
-        same("resolve with too little room", found, Err(expected))?;
-        self.kept_code("resolve with too little room", 0)
     }
 }
 
@@ -84,8 +70,8 @@ fn compare_assembler(assembler: &mut Assembler, unit: &[u8], made: &Made) -> Com
             && lowered.size() as usize == made.totals.size
     });
     holds("Assembler::lower", is_same, "it gives the same")?;
-    let is_same = match (assembler.assemble(unit), &made.resolved) {
-        (Ok(code), Ok(expected)) => same_but_for_nodes(code.bytes(), expected),
+    let is_same = match (assembler.assemble(unit), &made.code) {
+        (Ok(code), Ok(expected)) => same_but_for_nodes(code.bytes(), &expected.resolved),
         (Err(found), Err(expected)) => found == refusal(*expected),
         _ => false,
     };

@@ -1,4 +1,4 @@
-//! Draws the units, compares each, and tells what was found.
+//! Draws the units or listings, compares each, and tells what was found.
 
 use std::fmt::Display;
 use std::fs;
@@ -11,7 +11,10 @@ use oracle::random::Random;
 
 use crate::compare::Library;
 use crate::difference::{Compared, Difference};
-use crate::options::Options;
+use crate::options::{Mode, Options};
+use crate::stored::Listings;
+use crate::stored::edges::{self, Edges};
+use crate::stored::model::Field;
 use crate::stripped::Pair;
 
 /// One unit of so many is also lent just enough room, and too little.
@@ -21,10 +24,20 @@ const ROOMS: usize = 16;
 const TOLD: usize = 20;
 const TOLD_BYTES: usize = 2_048;
 
-/// What is tried with each unit.
+/// What is tried with each unit, or with each of what is drawn instead.
 pub trait Trial {
     /// What was compared, in figures.
     type Tally: Default + Display;
+
+    /// One as it is made, by its number.
+    fn well(random: &mut Random, number: usize) -> Vec<u8> {
+        undamaged_unit(random, well_size(number))
+    }
+
+    /// A damaged one.
+    fn damaged(random: &mut Random, number: usize) -> Vec<u8> {
+        damaged_unit(random, damaged_size(number))
+    }
 
     /// Compares all that is said of a unit, and counts it; with `rooms`, also with room that just suffices and with too little.
     fn try_unit(&mut self, unit: &[u8], rooms: bool, tally: &mut Self::Tally) -> Compared<()>;
@@ -37,41 +50,50 @@ struct Found {
     difference: Difference,
 }
 
-/// All units that are compared one after the other.
-struct Run<T> {
-    trial: T,
+/// What was found in all that was compared one after the other.
+#[derive(Default)]
+struct Run {
     found: Vec<Found>,
     differing: usize,
 }
 
 pub fn run(options: &Options) -> Result<ExitCode, String> {
-    match options.strip {
-        true => run_with(Pair::new(), options),
-        false => run_with(Library::new(), options),
-    }
-}
-
-fn run_with(trial: impl Trial, options: &Options) -> Result<ExitCode, String> {
     let began = Instant::now();
-    let mut run = Run {
-        trial,
-        found: vec![],
-        differing: 0,
-    };
-    match &options.file {
-        Some(file) => run.file(file)?,
-        None => run.random(options),
+    let mut run = Run::default();
+    match options.mode {
+        Mode::Published => run.all(&mut Library::new(), options)?,
+        Mode::Stripped => run.all(&mut Pair::new(), options)?,
+        Mode::Stored => {
+            run.edges();
+            run.all(&mut Listings::new(), options)?;
+        }
     }
     println!("time: {:.1} s", began.elapsed().as_secs_f64());
-    run.tell();
+    run.tell(options.mode.noun());
     Ok(match run.differing {
         0 => ExitCode::SUCCESS,
         _ => ExitCode::FAILURE,
     })
 }
 
-impl<T: Trial> Run<T> {
-    fn random(&mut self, options: &Options) {
+impl Run {
+    fn all<T: Trial>(&mut self, trial: &mut T, options: &Options) -> Result<(), String> {
+        match &options.file {
+            Some(file) => self.file(trial, file)?,
+            None => self.random(trial, options),
+        }
+        Ok(())
+    }
+
+    /// Every number in each field that is moved.
+    fn edges(&mut self) {
+        for field in [Field::First, Field::Second] {
+            let name = format!("each number as {field}");
+            self.units(&mut Edges::new(field), &name, edges::listings(field));
+        }
+    }
+
+    fn random<T: Trial>(&mut self, trial: &mut T, options: &Options) {
         let Options {
             seed,
             well,
@@ -80,25 +102,25 @@ impl<T: Trial> Run<T> {
         } = options;
         println!("seed {seed}");
         let mut random = Random::new(*seed);
-        let made = (0..*well).map(|number| undamaged_unit(&mut random, well_size(number)));
-        self.units("well", made);
-        let made = (0..*damaged).map(|number| damaged_unit(&mut random, damaged_size(number)));
-        self.units("damaged", made);
+        let made = (0..*well).map(|number| T::well(&mut random, number));
+        self.units(trial, "well", made);
+        let made = (0..*damaged).map(|number| T::damaged(&mut random, number));
+        self.units(trial, "damaged", made);
     }
 
-    fn file(&mut self, file: &str) -> Result<(), String> {
+    fn file<T: Trial>(&mut self, trial: &mut T, file: &str) -> Result<(), String> {
         let text = fs::read_to_string(file).map_err(|error| format!("{file}: {error}"))?;
         let cases = cases::parse(&text)?;
-        self.units(file, cases.into_iter().map(|case| case.unit));
+        self.units(trial, file, cases.into_iter().map(|case| case.unit));
         Ok(())
     }
 
     /// Compares the units, and prints their figures.
-    fn units(&mut self, name: &str, units: impl Iterator<Item = Vec<u8>>) {
+    fn units<T: Trial>(&mut self, trial: &mut T, name: &str, units: impl Iterator<Item = Vec<u8>>) {
         let mut tally = T::Tally::default();
         for (number, unit) in units.enumerate() {
             let rooms = number % ROOMS == 0;
-            if let Err(difference) = self.trial.try_unit(&unit, rooms, &mut tally) {
+            if let Err(difference) = trial.try_unit(&unit, rooms, &mut tally) {
                 self.add(Found {
                     name: format!("{name} {number}"),
                     unit,
@@ -122,8 +144,8 @@ impl<T: Trial> Run<T> {
         }
     }
 
-    fn tell(&self) {
-        println!("{} units differ", self.differing);
+    fn tell(&self, noun: &str) {
+        println!("{} {noun} differ", self.differing);
         for found in &self.found {
             let Found {
                 name,

@@ -7,11 +7,10 @@ use std::ops::Range;
 use delzhomo::tag::Tag;
 use delzhomo::{Refusal, Totals, listing_length, lower_into, measure, resolve_into, strip_into};
 
-use crate::compare::{
-    Answer, FRONT, NODE, RECORD, SPARE_BYTES, SPARE_WORDS, record_text, same_marks,
-};
+use crate::compare::{Answer, SPARE_BYTES, SPARE_WORDS, same_marks};
 use crate::difference::{Compared, Difference, holds, same};
 use crate::lent::Lent;
+use crate::listing::{NODE, TOO_SHORT, record_text, records};
 use crate::run::Trial;
 use tally::Tally;
 
@@ -19,12 +18,6 @@ use tally::Tally;
 const LABELS: Range<usize> = 2..6;
 const LINE: Range<usize> = 6..8;
 const VALUE: Range<usize> = 10..18;
-
-const TOO_SHORT: Refusal = Refusal {
-    number: 20,
-    place: 0,
-    extra: 0,
-};
 
 /// What was compared of a unit, and what stripping changed in it.
 pub struct Outcome {
@@ -276,9 +269,4 @@ fn shapes(listing: &[u8]) -> impl Iterator<Item = (u32, u32, &[u8], &[u8])> {
         start += size;
         (begun, size, &record[LABELS], &record[NODE..])
     })
-}
-
-fn records(listing: &[u8]) -> impl Iterator<Item = &[u8]> {
-    let records = listing.get(FRONT..).unwrap_or_default();
-    records.chunks_exact(RECORD)
 }

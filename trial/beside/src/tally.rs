@@ -4,6 +4,7 @@ use std::fmt;
 
 use crate::compare::{Answer, Outcome};
 use crate::drawn::{Answers, Drawn};
+use crate::stored::model::Carried;
 
 #[derive(Default)]
 pub struct Tally {
@@ -14,6 +15,7 @@ pub struct Tally {
     marks: usize,
     resolved: usize,
     distances: usize,
+    stored: Carried,
     tags: u128,
 }
 
@@ -32,6 +34,7 @@ impl Tally {
             self.marks += amount.marks;
             self.resolved += amount.resolved;
             self.distances += amount.distances;
+            self.stored.add_all(&amount.stored);
             self.tags |= amount.tags;
         }
     }
@@ -39,7 +42,7 @@ impl Tally {
 
 impl fmt::Display for Tally {
     fn fmt(&self, f: &mut fmt::Formatter<'_>) -> fmt::Result {
-        writeln!(f, "{}", self.drawn)?;
+        writeln!(f, "{}", self.drawn.said("units"))?;
         writeln!(f, "  by answer: {}", self.answers)?;
         writeln!(f, "  by bytes: {}", self.drawn.by_size())?;
         let (labelled, marks, tags) = (self.labelled, self.marks, self.tags.count_ones());
@@ -49,6 +52,7 @@ impl fmt::Display for Tally {
         )?;
         let (resolved, distances) = (self.resolved, self.distances);
         writeln!(f, "  resolved: {resolved} records, {distances} distances")?;
+        writeln!(f, "  stored and restored: {}", self.stored)?;
         writeln!(f, "  lent just enough and too little: {} units", self.rooms)
     }
 }

@@ -5,6 +5,7 @@ pub mod cases;
 pub mod generate;
 pub mod limits;
 pub mod makers;
+pub mod offsets;
 pub mod program;
 pub mod random;
 pub mod reader;

@@ -5,7 +5,7 @@ use std::fmt;
 use byte::Parts;
 use redscript_io::{Instr, Offset};
 
-/// An instruction's fields, with label numbers or distances in `first` and `second`.
+/// An instruction's fields, with label numbers, distances or stored distances in `first` and `second`.
 #[derive(Debug, Default)]
 pub struct Record {
     pub tag: u8,
@@ -50,6 +50,16 @@ impl Record {
     pub fn resolved(instr: &Instr) -> Self {
         let mut record = Self::labelled(&Parts::of(instr));
         (record.first, record.second) = distances(instr);
+        record
+    }
+
+    /// The record of resolved code as it is stored: locations are the declared fields, from which the accessors make distances.
+    pub fn stored(instr: &Instr) -> Self {
+        let mut record = Self::labelled(&Parts::of(instr));
+        for field in record.locations_mut() {
+            let bits = u16::try_from(*field).expect("a field of 16 bits");
+            *field = bits.cast_signed().into();
+        }
         record
     }
 

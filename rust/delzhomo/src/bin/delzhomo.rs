@@ -8,7 +8,8 @@ use std::iter;
 use std::process::ExitCode;
 
 use delzhomo::{
-    Assembler, Instruction, Listing, Nodes, Place, Refusal, Unit, check, measure, path_text, view,
+    Assembler, Instruction, Instructions, Listing, Loc, Nodes, Place, Refusal, Stored, Unit, check,
+    measure, path_text, view,
 };
 
 const HELP: &str = "\
@@ -18,6 +19,8 @@ Assembles script units. FILE is a unit, as raw bytes or in commented hexadecimal
 
   stage FILE      the unit's code with jump distances
   labelled FILE   the same before the jumps are resolved: label numbers, then the label table
+  stored FILE     the code as the game's loader stores it: each distance less 3, 5 or 11, by instruction and field
+  restored FILE   the code with jump distances again; FILE is a listing as the loader stores it, not a unit
   check FILE      whether the unit has code: how many records and labels, and the total size
   view FILE N     record N of the code, from 0 on
   draw FILE       the code with arrows from each jump to where it lands
@@ -25,9 +28,10 @@ Assembles script units. FILE is a unit, as raw bytes or in commented hexadecimal
                   one that cannot be read is stripped as far as it is read
 
   --hex, --raw    FILE is hexadecimal, or raw bytes (else its content decides)
-  --listing       check, view, draw: FILE is a listing with distances, not a unit
-  --bytes         stage, labelled, strip: write the listing or the unit itself
-  --nodes         all but check and strip, of a unit: beside each instruction the nodes down to the one that emitted it
+  --listing       stored, check, view, draw: FILE is a listing with distances, not a unit
+  --bytes         stage, labelled, stored, restored, strip: write the listing or the unit itself
+  --nodes         all but restored, check and strip, of a unit: beside each instruction the nodes down to the one that
+                  emitted it
   --ascii         draw: no box characters
   --columns N     draw: at most N columns of arrows
   --help          this text
@@ -91,11 +95,15 @@ fn run(out: &mut Vec<u8>) -> Outcome {
         return Ok(());
     };
     let bytes = decode(read(&request.file)?, &request)?;
-    let mut assembler = Assembler::new();
     if request.listing {
         return on_listing(&request, Listing::from_bytes(&bytes)?, None, out);
     }
+    if request.command == Command::Restored {
+        let restored = Stored::from_bytes(bytes)?.restored()?;
+        return on_listing(&request, Listing::from_bytes(&restored)?, None, out);
+    }
     let unit = Unit::from_bytes(bytes);
+    let mut assembler = Assembler::new();
     on_unit(&request, &unit, &mut assembler, out).map_err(|failure| explain(failure, &unit))
 }
 
@@ -110,13 +118,8 @@ fn on_unit(
     match request.command {
         Command::Labelled => {
             let labelled = assembler.lower(unit)?;
-            let text = with_paths(&labelled, labelled.iter().map(|each| each.node), nodes);
+            let text = with_paths(&labelled, labelled.iter(), nodes);
             put(request, labelled.bytes(), &text, out);
-        }
-        Command::Stage => {
-            let listing = assembler.assemble(unit)?;
-            let text = with_paths(&listing, listing.iter().map(|each| each.node), nodes);
-            put(request, listing.bytes(), &text, out);
         }
         Command::Check => {
             assembler.assemble(unit)?;
@@ -129,10 +132,13 @@ fn on_unit(
                 .as_bytes(),
             );
         }
-        Command::View | Command::Draw => {
+        Command::Strip => strip(request, unit, out),
+        Command::Stage | Command::Stored | Command::View | Command::Draw => {
             on_listing(request, assembler.assemble(unit)?, nodes, out)?;
         }
-        Command::Strip => strip(request, unit, out),
+        Command::Restored => {
+            return Err(Failure::Usage("a unit is not a stored listing".into()));
+        }
     }
     Ok(())
 }
@@ -150,6 +156,8 @@ fn on_listing(
     out: &mut Vec<u8>,
 ) -> Outcome {
     let text = match request.command {
+        Command::Stage | Command::Restored => with_paths(&listing, listing.iter(), nodes),
+        Command::Stored => return store(request, listing, nodes, out),
         Command::Check => format!("records {}\n", check(listing.bytes())?),
         Command::View => record(listing, request.number, nodes)?,
         Command::Draw => {
@@ -160,11 +168,23 @@ fn on_listing(
                 .map_or(drawing, |columns| drawing.columns(columns))
                 .to_string()
         }
-        Command::Stage | Command::Labelled | Command::Strip => {
+        Command::Labelled | Command::Strip => {
             return Err(Failure::Usage("a listing is not a unit".into()));
         }
     };
-    out.extend_from_slice(text.as_bytes());
+    put(request, listing.bytes(), &text, out);
+    Ok(())
+}
+
+fn store(
+    request: &Request,
+    listing: Listing<'_>,
+    nodes: Option<&Nodes>,
+    out: &mut Vec<u8>,
+) -> Outcome {
+    let stored = listing.stored()?;
+    let text = with_paths(&stored, stored.iter(), nodes);
+    put(request, stored.bytes(), &text, out);
     Ok(())
 }
 
@@ -179,9 +199,9 @@ fn put(request: &Request, bytes: &[u8], text: &str, out: &mut Vec<u8>) {
 
 /// A listing as it is printed: a heading, a line an instruction, the label table if it has one. Where paths are asked for, that to an
 /// instruction's node stands behind its line.
-fn with_paths(
+fn with_paths<L: Loc>(
     listing: &impl ToString,
-    places: impl Iterator<Item = u32>,
+    instructions: Instructions<'_, L>,
     nodes: Option<&Nodes>,
 ) -> String {
     let text = listing.to_string();
@@ -189,7 +209,7 @@ fn with_paths(
         return text;
     };
     let places = iter::once(None)
-        .chain(places.map(Some))
+        .chain(instructions.map(|each| Some(each.node)))
         .chain(iter::repeat(None));
     let lines = text.lines().zip(places).map(|(line, place)| match place {
         Some(place) => beside(line, place, nodes),
@@ -250,6 +270,8 @@ fn explain(failure: Failure, unit: &Unit) -> Failure {
 enum Command {
     Stage,
     Labelled,
+    Stored,
+    Restored,
     Check,
     View,
     Draw,
@@ -261,6 +283,8 @@ impl Command {
         match word {
             "stage" => Ok(Self::Stage),
             "labelled" => Ok(Self::Labelled),
+            "stored" => Ok(Self::Stored),
+            "restored" => Ok(Self::Restored),
             "check" => Ok(Self::Check),
             "view" => Ok(Self::View),
             "draw" => Ok(Self::Draw),
@@ -368,14 +392,16 @@ impl Options {
 
     /// An option that a command has no use for is a mistake, not a wish to be passed over.
     fn fits(&self, command: Command) -> Outcome {
-        let strips = command == Command::Strip;
-        let prints = matches!(command, Command::Stage | Command::Labelled) || strips;
-        let draws = command == Command::Draw;
+        use Command::*;
+        let prints = matches!(command, Stage | Labelled | Stored | Restored | Strip);
+        let takes_listings = matches!(command, Stored | Check | View | Draw);
+        let draws = command == Draw;
         // the nodes are the unit's, and a listing itself has no line to put them beside
-        let has_lines = command != Command::Check && !strips && !self.listing && !self.bytes;
+        let has_lines =
+            !matches!(command, Restored | Check | Strip) && !self.listing && !self.bytes;
         let misplaced = [
             ("--bytes", self.bytes && !prints),
-            ("--listing", self.listing && prints),
+            ("--listing", self.listing && !takes_listings),
             ("--nodes", self.nodes && !has_lines),
             ("--ascii", self.ascii && !draws),
             ("--columns", self.columns.is_some() && !draws),

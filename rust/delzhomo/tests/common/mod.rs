@@ -6,6 +6,7 @@ use std::fs;
 use std::path::PathBuf;
 
 use delzhomo::tree::*;
+use delzhomo::{Refusal, Unit};
 
 /// A file of the repository.
 pub fn repository(path: &str) -> PathBuf {
@@ -16,6 +17,27 @@ pub fn repository(path: &str) -> PathBuf {
 
 pub fn text_of(path: &str) -> String {
     fs::read_to_string(repository(path)).unwrap_or_else(|error| panic!("{path}: {error}"))
+}
+
+pub fn refusal(number: usize, place: usize, extra: usize) -> Refusal {
+    Refusal {
+        number,
+        place,
+        extra,
+    }
+}
+
+pub fn unit(stmts: impl Into<Vec<Stmt>>) -> Unit {
+    script(stmts).encode().unwrap()
+}
+
+pub fn while_false() -> Unit {
+    Unit::from_hex(WHILE_FALSE).unwrap()
+}
+
+pub fn nops_in_a_loop(count: usize) -> Unit {
+    let nops = vec![Stmt::Expr(Expr::Nop); count];
+    unit([Stmt::While(ConditionalBlock::new(Expr::bool(false), nops))])
 }
 
 /// The bytes of hexadecimal digits, white space left out.

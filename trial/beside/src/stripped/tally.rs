@@ -42,7 +42,7 @@ impl Tally {
 
 impl fmt::Display for Tally {
     fn fmt(&self, f: &mut fmt::Formatter<'_>) -> fmt::Result {
-        writeln!(f, "{}", self.drawn)?;
+        writeln!(f, "{}", self.drawn.said("units"))?;
         let in_reading = |answer| matches!(answer, Answer::Refused(number) if number <= READING);
         let resolved = self.answers.count(|answer| answer == Answer::Code);
         let reading = self.answers.count(in_reading);
