@@ -1,19 +1,16 @@
 -- Worked examples, computed: document 01's (a) to (i), then rows that show a decision each. Other cases are run by a program.
-use Rattle.std.specs.Prelude.{ℕ, zero, suc, ◌≡◌, refl, Bool, true, false, cond, ◌&&◌, List, [], ◌∷◌, ◌++◌, map, eqb, ltb, length, ℤ, pos, neg_ℤ}
-use Rattle.definitions.specs.Answer.{Result, made, refusal, bind, onward, checked}
-use Rattle.definitions.specs.Bytes.{number, bytes}
-use Rattle.definitions.specs.Tag.{Nop, Null, I32One, I32Zero, I8Const, I32Const, StringConst, TrueConst, FalseConst, Assign, Local, Param, Switch, SwitchLabel, SwitchDefault, Jump, JumpIfFalse, Skip, InvokeStatic, InvokeVirtual, ParamEnd, Return, Context, This, WeakRefToRef, AsRef, Deref, ArrayResize, ArrayElement, U64Const, I32ToEnum, ArrayClear, StructField, ObjectField, Conditional, New, Construct, DynamicCast, sizes, tag_size, emitted, Row, rows, row_of, default_tags, const_tags, const_tag, const_widths, intrinsics, intrinsic_of}
-use Rattle.definitions.specs.Instr.{Instr, size, record_bytes, record_at, unused0, good_record}
-use Rattle.definitions.specs.Tree.{exprs_of, block_of, branches_of, cases_of, length_exprs, length_cases, is_present, place_of}
-use Rattle.definitions.specs.Read.{◌>>=◌, give, unknown_kind, unsigned, byte_below, mark_bytes, room, span, items, filling, run, head, ended, node, pick, as_nop, payload, as_const, as_null, as_new_instance, as_construct, as_assign, as_field, as_index, as_conditional, as_dyn_cast, as_local, as_intrinsic, callee, arguments, as_free_call, as_static_call, as_instance_call, as_closure_call, expr_kinds, expr_body, parse_expr, as_expr, as_block, as_while, arm, block_if, as_branches, as_switch, as_init_array, as_init_default, as_break, as_continue, return_if, as_return, stmt_kinds, stmt_body, parse_stmt, front_good, parse_unit}
-use Rattle.definitions.specs.Code.{many, emits, unmarked, label_limit, step, execute}
-use Rattle.definitions.specs.Lower.{require, is_prvalue, one_prvalue, is_flagged, flags_of, require_flags, weak_to_ref, null_tag, element_tag, local_tag, lower_field, lower_arg, nops, emit_invoke, emit_call, lower_expr, lower_elements, lower_array, primitive_default, default_instrs, lower_return, lower_return_nothing, jump_to, mid_default, ends_group, in_group, lower_stmt}
-use Rattle.definitions.specs.Listing.{records_bytes, listing_bytes, count_of, listing_front, records_from, all_good, read_listing, view}
-use Rattle.definitions.specs.Resolve.{in_range, word, signed, distance_of, resolve_field, resolve_record, resolve_records, resolve}
-use Rattle.definitions.specs.Stage.{Line, Printed, code, refused_with, lowered, labelled, lower_into, stage, lines_from, total_size, printed, shown}
-use Rattle.definitions.specs.Stored.{lesses, less_in, less_of, there, back as backAgain, move_field, move_record, move_records, move, store, restore}
-use Rattle.definitions.specs.Strip.{expr_parts, stmt_parts, parts_of, keep, blank, keep_marks, least, blank_payload, keep_length, strip_items, strip_run, strip_parts, strip_kind, strip_node, strip_expr, strip_stmt, strip, strip_into}
-use Rattle.definitions.specs.Text.{letters, digit, digits, places_in, decimal, hexadecimal, integer, fields, line_text, lines_text, text}
+use Rattle.std.specs.Prelude.{ℕ, zero, suc, Bool, true, false, cond, ◌&&◌, List, [], ◌∷◌, ◌++◌, map, eqb, ltb, length, ℤ, pos, neg_ℤ}
+use Rattle.definitions.specs.Answer.{Result, made, refusal}
+use Rattle.definitions.specs.Bytes.{bytes}
+use Rattle.definitions.specs.Tag.{Nop, Null, I32One, I32Zero, I8Const, I32Const, StringConst, TrueConst, FalseConst, Assign, Local, Param, Switch, SwitchLabel, SwitchDefault, Jump, JumpIfFalse, Skip, InvokeStatic, InvokeVirtual, ParamEnd, Return, Context, This, WeakRefToRef, AsRef, Deref, ArrayResize, ArrayElement, U64Const, I32ToEnum, ArrayClear, StructField, ObjectField, Conditional, New, Construct, DynamicCast, Row}
+use Rattle.definitions.specs.Instr.{Instr}
+use Rattle.definitions.specs.Code.{unmarked}
+use Rattle.definitions.specs.Listing.{listing_bytes, view}
+use Rattle.definitions.specs.Resolve.{resolve}
+use Rattle.definitions.specs.Stage.{Line, Printed, code, refused_with, labelled, lower_into, stage, lines_from, printed}
+use Rattle.definitions.specs.Stored.{less_of, store, restore}
+use Rattle.definitions.specs.Strip.{strip, strip_into}
+use Rattle.definitions.specs.Text.{letters, text}
 
 -- 1. Questions and replies
 
@@ -55,21 +52,21 @@ pub data Reply : Type 0 where
   unlike : Reply
   refuses : (number place extra : ℕ) → Reply
 
-reply_of : {A : Type 0} → (A → Reply) → Result A → Reply
+unfoldable pub reply_of : {A : Type 0} → (A → Reply) → Result A → Reply
 reply_of f (made a) = f a
 reply_of f (refusal n p x) = refuses n p x
 
-reply_printed : Printed → Reply
+unfoldable pub reply_printed : Printed → Reply
 reply_printed (code n t ls) = prints n t ls
 reply_printed (refused_with n p x) = refuses n p x
 
-same_bytes : List ℕ → List ℕ → Bool
+unfoldable pub same_bytes : List ℕ → List ℕ → Bool
 same_bytes [] [] = true
 same_bytes [] (y ∷ ys) = false
 same_bytes (x ∷ xs) [] = false
 same_bytes (x ∷ xs) (y ∷ ys) = eqb x y && same_bytes xs ys
 
-pub answer : Question → Reply
+unfoldable pub answer : Question → Reply
 answer (stage_of s) = reply_printed (printed (stage s))
 answer (text_of s) = says (text (printed (stage s)))
 answer (labelled_of s) = reply_of (λ l. labels (length l.instrs) l.offset l.marks (lines_from pos 0 l.instrs)) (labelled s)
@@ -117,65 +114,65 @@ abbrev by : (tag at : ℕ) → Origin
 by t at = record { tag = t; node = at }
 
 -- units that are too long to write out
-run_of : List ℕ → List ℕ
+unfoldable pub run_of : List ℕ → List ℕ
 run_of s = bytes 4 (length s) ++ s
 
-node_of : (kind : ℕ) → List ℕ → List ℕ
+unfoldable pub node_of : (kind : ℕ) → List ℕ → List ℕ
 node_of k s = run_of (k ∷ s)
 
 -- a unit of these statements, and the statement of an expression
-unit_of : List ℕ → List ℕ
+unfoldable pub unit_of : List ℕ → List ℕ
 unit_of s = 1 ∷ run_of (0 ∷ run_of s)
 
-expression : List ℕ → List ℕ
+unfoldable pub expression : List ℕ → List ℕ
 expression e = node_of 1 e
 
-pub times : ℕ → List ℕ → List ℕ
+unfoldable pub times : ℕ → List ℕ → List ℕ
 times zero s = []
 times (suc n) s = s ++ times n s
 
-nop_nodes : ℕ → List ℕ
+unfoldable pub nop_nodes : ℕ → List ℕ
 nop_nodes n = times n (node_of 1 [])
 
 -- AsRef of a Nop, with its short-circuit mark
-as_ref_node : (short : ℕ) → List ℕ
+unfoldable pub as_ref_node : (short : ℕ) → List ℕ
 as_ref_node m = node_of 12 (28 ∷ m ∷ 1 ∷ (bytes 4 7 ++ run_of (nop_nodes 1)))
 
 -- function 1, name 2, line 3, so many parameters and these arguments; a free call
-call_of : (params : ℕ) → List ℕ → List ℕ
+unfoldable pub call_of : (params : ℕ) → List ℕ → List ℕ
 call_of n args = bytes 4 1 ++ (bytes 4 2 ++ (bytes 2 3 ++ (0 ∷ n ∷ (times n (0 ∷ []) ++ run_of args))))
 
-free_call_of : (params : ℕ) → List ℕ → List ℕ
+unfoldable pub free_call_of : (params : ℕ) → List ℕ → List ℕ
 free_call_of n args = node_of 13 (call_of n args)
 
 -- an instance call with so many parameters
-instance_call_of : (params : ℕ) → (receiver args : List ℕ) → List ℕ
+unfoldable pub instance_call_of : (params : ℕ) → (receiver args : List ℕ) → List ℕ
 instance_call_of n e args = node_of 15 (0 ∷ (e ++ call_of n args))
 
 -- units of one node, for a field that is to be looked at: an expression of a kind, a constant, a closure call with no argument, a statement of a kind
-unit_with : (kind : ℕ) → List ℕ → List ℕ
+unfoldable pub unit_with : (kind : ℕ) → List ℕ → List ℕ
 unit_with k s = unit_of (expression (node_of k s))
 
-const_unit : (byte width value : ℕ) → List ℕ
+unfoldable pub const_unit : (byte width value : ℕ) → List ℕ
 const_unit b w v = unit_with 2 (b ∷ bytes w v)
 
 -- a free call: function, name, line, flag byte and one mark
-call_unit : (function name line flags mark : ℕ) → List ℕ
+unfoldable pub call_unit : (function name line flags mark : ℕ) → List ℕ
 call_unit f n l b m = unit_with 13 (bytes 4 f ++ (bytes 4 n ++ (bytes 2 l ++ (b ∷ 1 ∷ m ∷ run_of []))))
 
-closure_unit : (name line : ℕ) → List ℕ
+unfoldable pub closure_unit : (name line : ℕ) → List ℕ
 closure_unit n l = unit_with 16 (nop_nodes 1 ++ (bytes 4 n ++ (bytes 2 l ++ run_of [])))
 
 -- a Switch with one case and a default
-switch_unit : (type defaultIndex : ℕ) → List ℕ
+unfoldable pub switch_unit : (type defaultIndex : ℕ) → List ℕ
 switch_unit t i = unit_of (node_of 5 (bytes 4 t ++ (nop_nodes 1 ++ (bytes 4 i ++ (1 ∷ (run_of (nop_nodes 1 ++ run_of []) ++ run_of []))))))
 
 -- a listing of one record
-listing_of : (tag first value node : ℕ) → List ℕ
+unfoldable pub listing_of : (tag first value node : ℕ) → List ℕ
 listing_of t l v at = listing_bytes (record { tag = t; small = 0; first = l; second = 0; line = 0; flags = 0; value = v; node = at } ∷ [])
 
 -- the resolved listing of a unit; none where it is refused
-resolved_of : (unit : List ℕ) → List ℕ
+unfoldable pub resolved_of : (unit : List ℕ) → List ℕ
 resolved_of s = code_in (stage s)
   where
     code_in : Result (List Instr) → List ℕ
@@ -183,12 +180,12 @@ resolved_of s = code_in (stage s)
     code_in (refusal n p x) = []
 
 -- a listing of one record with two distances
-listing_of_two : (tag first second : ℕ) → List ℕ
+unfoldable pub listing_of_two : (tag first second : ℕ) → List ℕ
 listing_of_two t l m = listing_bytes (record { tag = t; small = 0; first = l; second = m; line = 0; flags = 0; value = 0; node = 0 } ∷ [])
 
 -- 3. The table
 
-pub table : List Example
+unfoldable pub table : List Example
 table =
     -- (a) while (false) { break }: starts 0, 3, 4, 7; sizes 3, 1, 3, 3; distances 10, 6 and -7
     example (stage_of (bytes 31 0x010000001A0000000015000000110300000003020F00000000050000000108)) (prints 4 10 (
@@ -479,36 +476,8 @@ table =
     ∷ example (pair_of (unit_of (node_of 11 [] ++ expression (node_of 4 (bytes 4 7)))) (unit_of (node_of 11 [] ++ expression (node_of 4 (bytes 4 9))))) unlike
     ∷ []
 
--- 4. The theorem: every question of the table has the reply that stands beside it
+-- 4. What is taken off of a record's fields: something off a field exactly if it carries a label, of every tag from 0 on
 
-pub examples : map (λ r. answer r.question) table ≡ map (λ r. r.reply) table
-unfolding table answer reply_of reply_printed same_bytes unit_with const_unit call_unit closure_unit switch_unit expr_parts stmt_parts parts_of keep blank keep_marks least blank_payload keep_length strip_items strip_run strip_parts strip_kind strip_node strip_expr strip_stmt strip strip_into run_of node_of unit_of expression times nop_nodes as_ref_node call_of free_call_of instance_call_of listing_of resolved_of listing_of_two bind onward checked number bytes sizes tag_size emitted rows row_of default_tags const_tags const_tag const_widths intrinsics intrinsic_of size record_bytes record_at unused0 good_record exprs_of block_of branches_of cases_of length_exprs length_cases is_present place_of ◌>>=◌ give unknown_kind unsigned byte_below mark_bytes room span items filling run head ended node pick as_nop payload as_const as_null as_new_instance as_construct as_assign as_field as_index as_conditional as_dyn_cast as_local as_intrinsic callee arguments as_free_call as_static_call as_instance_call as_closure_call expr_kinds expr_body parse_expr as_expr as_block as_while arm block_if as_branches as_switch as_init_array as_init_default as_break as_continue return_if as_return stmt_kinds stmt_body parse_stmt front_good parse_unit many emits unmarked label_limit step execute require is_prvalue one_prvalue is_flagged flags_of require_flags weak_to_ref null_tag element_tag local_tag lower_field lower_arg nops emit_invoke emit_call lower_expr lower_elements lower_array primitive_default default_instrs lower_return lower_return_nothing jump_to mid_default ends_group in_group lower_stmt records_bytes listing_bytes count_of listing_front records_from all_good read_listing view in_range word signed distance_of resolve_field resolve_record resolve_records resolve lowered lower_into stage lines_from total_size printed lesses less_in there backAgain move_field move_record move_records move letters digit digits places_in decimal integer fields line_text lines_text text
-examples = refl
-
--- 5. An input that is too long, and numbers as text
-
-pub too_long : shown (times 2049 (0 ∷ [])) ≡ refused_with 1 0 0
-unfolding shown times
-too_long = refl
-
-pub numerals : map decimal (0 ∷ 9 ∷ 10 ∷ 99 ∷ 100 ∷ 65535 ∷ 18446744073709551615 ∷ []) ≡ map letters ("0" ∷ "9" ∷ "10" ∷ "99" ∷ "100" ∷ "65535" ∷ "18446744073709551615" ∷ [])
-unfolding letters digit digits places_in decimal
-numerals = refl
-
-pub integers : map (λ w. integer (signed w)) (0 ∷ 32767 ∷ 32768 ∷ 65535 ∷ []) ≡ map letters ("0" ∷ "32767" ∷ "-32768" ∷ "-1" ∷ [])
-unfolding letters digit digits places_in decimal integer signed
-integers = refl
-
-pub words : map (hexadecimal 4) (0 ∷ 0x9A ∷ 0xBCDE ∷ 0x12F ∷ []) ≡ map letters ("0000" ∷ "009A" ∷ "BCDE" ∷ "012F" ∷ [])
-unfolding letters digit digits
-words = refl
-
--- 6. What is taken off: something off a field exactly if it carries a label, of every tag from 0 on
-
-pub taken_off : (tag : ℕ) → List Row → List (Bool × Bool)
+unfoldable pub taken_off : (tag : ℕ) → List Row → List (Bool × Bool)
 taken_off t [] = []
 taken_off t (r ∷ rs) = (ltb 0 (less_of t).first, ltb 0 (less_of t).second) ∷ taken_off (suc t) rs
-
-pub carriers : taken_off 0 rows ≡ map (λ r. (r.first, r.second)) rows
-unfolding taken_off lesses less_in rows
-carriers = refl

@@ -1,6 +1,6 @@
 -- A record of the listing: "tag 1, small 1, first 2, second 2, line 2, flags 2, value 8", and "four bytes at its end: the unit offset of
 -- the node that emitted it". "Records are 22 bytes".
-use Rattle.std.specs.Prelude.{ℕ, ◌+◌, Bool, cond, ◌&&◌, ◌||◌, List, [], ◌++◌, eqb}
+use Rattle.std.specs.Prelude.{ℕ, ◌+◌, Bool, cond, ◌&&◌, ◌||◌, List, ◌++◌, eqb}
 use Rattle.definitions.specs.Bytes.{number, bytes}
 use Rattle.definitions.specs.Tag.{row_of, tag_size, emitted}
 

@@ -15,9 +15,6 @@ use Rattle.definitions.specs.Listing.{front_length, listing_length, listing_fron
 use Rattle.instr.specs.declared.listings.Checked.TheVariants.{Good, Bad}
 use Rattle.instr.specs.declared.listings.Viewed.{Viewed}
 use Rattle.instr.specs.declared.listings.Viewed.TheVariants as viewed
-use denote.Enum.Declared.{tag_of}
-use mathlib.Core.Logic.{◌⊎◌, inl, inr}
-use Rattle.instr.specs.contracts.listings.Viewed.{the_type}
 use Rattle.instr.specs.Values.{stored, front_fits, front_written, checked_is, counted, front_is, viewed_is}
 
 -- 1. The front
@@ -230,9 +227,8 @@ pub seen_part : (r : Viewed) (s : List ℕ) (n : ℕ) → r ≡ viewed.Seen → 
 unfolding viewed_is part_of
 seen_part r s n h e = let w : listing_length n + record_length - listing_length n ≡ record_length = omega arith in rw (w, ← e, h)
 
-pub unseen : (r : Viewed) (s : List ℕ) (n : ℕ) → (tag_of the_type r ≡ 1) ⊎ (tag_of the_type r ≡ 2) → viewed_is r s n ≡ view s n → [] ≡ part_of (view s n)
+pub unseen : (r : Viewed) (s : List ℕ) (n : ℕ) → (r ≡ viewed.Seen → ⊥) → viewed_is r s n ≡ view s n → [] ≡ part_of (view s n)
 unfolding viewed_is part_of
-unseen viewed.Seen s n (inl t) e = absurd (omega arith)
-unseen viewed.Seen s n (inr t) e = absurd (omega arith)
+unseen viewed.Seen s n h e = absurd (h refl)
 unseen viewed.Bad s n h e = rw (← e)
 unseen (viewed.Past m) s n h e = rw (← e)

@@ -1,6 +1,6 @@
 -- Records and their bytes.
 use Prim.Native.Nat.{ℕ, zero, suc, ◌+◌, ◌-◌, ◌≤◌, ◌<◌, ◌^◌}
-use mathlib.Core.Path.{◌≡◌, refl, sym, ◌∙◌}
+use mathlib.Core.Path.{◌≡◌, refl, sym, ◌∙◌, subst}
 use mathlib.Core.Bool.{Bool, true, ◌&&◌, and-eq-true_iff}
 use mathlib.Core.List.{List, [], ◌∷◌, ◌++◌, map, append_assoc}
 use native.Mathlib.Omega.{arith}
@@ -164,7 +164,7 @@ write_none i s h = rw (lt-leb record_length (length s) h)
 
 pub good_is : (i : Instr) {n : ℕ} {row : Row} → n ≡ tag_size i.tag → row_is row ≡ row_of i.tag → good_with n (row_is row) i ≡ good_record i
 unfolding good_with good_record emitted
-good_is i e r = rw (e, r)
+good_is i {n} {row} e r = subst (λ (m : ℕ). good_with m (row_is row) i ≡ good_record i) (sym e) (subst (λ x. good_with (tag_size i.tag) x i ≡ good_record i) (sym r) refl)
 
 -- the same with the size and the row read in the tables
 pub good_in_tables : (i : Instr) → good_with (get_or sizes i.tag 0) (row_is (get_or the_rows (get_or the_numbers i.tag 0) none)) i ≡ good_record i

@@ -1,4 +1,6 @@
 // Tags and their tables, numbers in bytes, the record and its bytes, the listing's check and the viewer.
+#![tactic(auto)]
+
 pub mod listings;
 pub mod numbers;
 pub mod records;

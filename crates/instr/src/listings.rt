@@ -18,14 +18,14 @@ pub const FRONT: usize = 5;
 pub const MOST_RECORDS: usize = 1048576;
 
 // A listing with so many records, or 30.
-#[derive(Drop)]
+#[derive(Clone, Copy)]
 pub enum Checked {
     Good { count: usize },
     Bad,
 }
 
 // Record n stands in the listing; or 30; or 22, with the number that was asked for.
-#[derive(Drop)]
+#[derive(Clone, Copy)]
 pub enum Viewed {
     Seen,
     Bad,

@@ -6,7 +6,7 @@ ghost use Rattle.instr.specs.Values.{row_is, instr_of, fields_of, written, good_
 use crate::tables::Row;
 use crate::{numbers, tables};
 
-#[derive(Drop)]
+#[derive(Clone, Copy)]
 pub struct Record {
     pub tag: u8,
     pub small: u8,
@@ -40,7 +40,7 @@ impl Record {
 }
 
 // A field on its way into bytes: where it begins, how many bytes it has, and what it holds.
-#[derive(Drop)]
+#[derive(Clone, Copy)]
 struct Field(usize, usize, u64);
 
 // The fields of a record, one after the other.

@@ -118,7 +118,7 @@ pub const SIZES: [u8; 256] = [
 ];
 
 // The fields of a record that a tag uses.
-#[derive(Drop)]
+#[derive(Clone, Copy)]
 pub struct Row {
     pub small: bool,
     pub first: bool,
@@ -332,7 +332,7 @@ pub const DEFAULT_TAGS: [u8; 17] = [
 ];
 
 // The tag that gives a primitive its default value, or a primitive with no value.
-#[derive(Drop)]
+#[derive(Clone, Copy)]
 pub enum DefaultTag {
     Is(u8),
     NoValue,

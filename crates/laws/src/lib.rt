@@ -1,1 +1,2 @@
 // Only laws of the definitions that several crates cite, in proofs/.
+#![tactic(auto)]

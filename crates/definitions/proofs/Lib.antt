@@ -1,0 +1,2 @@
+-- The theorems of the worked examples.
+pub mod Examples
