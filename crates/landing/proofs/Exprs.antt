@@ -5,10 +5,13 @@ use mathlib.Core.List.{List, [], ◌∷◌}
 use native.Mathlib.Omega.{arith}
 use lib.ListN.{length}
 use lib.IntN.{ℤ}
-use Rattle.definitions.specs.Tag.{rows, row_of}
+use Rattle.definitions.specs.Tag
+use Rattle.definitions.specs.Tag.{rows, row_of, tag_size}
+use Rattle.definitions.specs.Instr.{Instr, plain as plain_instr}
 use Rattle.definitions.specs.Tree.{Callee, Expr, Exprs, nop, const, null, new_instance, construct, assign, field, index, conditional, dyn_cast, local, intrinsic, free_call, static_call, instance_call, closure_call, enil, econs}
 use Rattle.definitions.specs.Code.{Code}
 use Rattle.definitions.specs.Lower.{weak_to_ref, lower_field, lower_arg, nops, emit_invoke, emit_call, require_flags, lower_expr, lower_exprs, lower_args, lower_elements, lower_array}
+use Rattle.laws.proofs.Sizes.{tag_total}
 use Rattle.laws.proofs.Picked.{const_plain, null_plain, element_plain, local_plain, intrinsic_plain}
 use Rattle.landing.specs.Distance.{ahead, size_weak, size_field, size_skip, size_nops, size_invoke, size_call, size_expr, size_exprs, size_args, size_elements, size_array, dist_field, dist_skip, dist_call, dist_expr, dist_exprs, dist_args}
 use Rattle.landing.proofs.Pieces.{Piece}
@@ -25,7 +28,7 @@ land_weak at (suc w) = plain (refl, refl)
 land_nops : {M : ℕ → ℕ} {o n : ℕ} (at : ℕ) (ps : List ℕ) → Whole M o n (nops at ps) (size_nops ps) (length ps) []
 unfolding nops size_nops row_of rows
 land_nops at [] = nothing
-land_nops at (p ∷ ps) = close (seq (plain (refl, refl)) (land_nops at ps)) refl (omega arith)
+land_nops {o} at (p ∷ ps) = close (seq (plain (refl, refl)) (land_nops {o = o + tag_size Tag.Nop} at ps)) refl (omega arith)
 
 -- a field, with what is said of its receiver
 land_field : {M : ℕ → ℕ} {o n : ℕ} {s c : ℕ} {ds : List ℤ} (at form name : ℕ) (receiver : Code) → ((o n : ℕ) → Whole M o n receiver s c ds) →
@@ -45,7 +48,7 @@ land_arg at (suc p) arg f = close (labels (seq (carry (refl, refl)) (ends (f _ _
 land_flags : {M : ℕ → ℕ} {o n : ℕ} (es : Exprs) (i : ℕ) → Whole M o n (require_flags es i) 0 0 []
 unfolding require_flags
 land_flags enil i = nothing
-land_flags (econs e es) i = close (seq (requires _ 13 _ (i + 1)) (land_flags es (i + 1))) refl (omega arith)
+land_flags {o} (econs e es) i = close (seq (requires _ 13 _ (i + 1)) (land_flags {o = o + 0} es (i + 1))) refl (omega arith)
 
 land_invoke : {M : ℕ → ℕ} {o n a : ℕ} (at b exit line flags function name : ℕ) →
     Piece M o n (emit_invoke at b exit line flags function name) (size_invoke b) 1 [] [] Unit (M exit ≡ o + a) Unit Unit (ahead a ∷ [])
@@ -101,10 +104,14 @@ mutual
 
 -- 3. The elements of an array
 
+-- what assigns an element
+abbrev store_element : (at l t i : ℕ) → List Instr
+store_element at l t i = plain_instr at Tag.Assign 0 0 ∷ plain_instr at Tag.ArrayElement 0 t ∷ plain_instr at Tag.Local 0 l ∷ plain_instr at Tag.U64Const 0 i ∷ []
+
 land_elements : {M : ℕ → ℕ} {o n : ℕ} (es : Exprs) (at l t i : ℕ) → Whole M o n (lower_elements es at l t i) (size_elements es) (count_elements es) (dist_exprs es)
 unfolding lower_elements size_elements count_elements dist_exprs row_of rows
 land_elements enil at l t i = nothing
-land_elements (econs e es) at l t i = close (seq (straight _ ((refl, refl), ((refl, refl), ((refl, refl), ((refl, refl), tt))))) (seq (land_expr e) (land_elements es at l t (i + 1)))) refl (omega arith)
+land_elements {o} (econs e es) at l t i = close (seq (straight (store_element at l t i) ((refl, refl), ((refl, refl), ((refl, refl), ((refl, refl), tt))))) (seq (land_expr e) (land_elements {o = o + tag_total (store_element at l t i) + size_expr e} es at l t (i + 1)))) refl (omega arith)
 
 pub land_array : {M : ℕ → ℕ} {o n : ℕ} (es : Exprs) (at l t : ℕ) → Whole M o n (lower_array es at l t) (size_array es) (count_array es) (dist_exprs es)
 unfolding lower_array size_array count_array dist_exprs row_of rows

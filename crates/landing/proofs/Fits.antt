@@ -9,7 +9,6 @@ use native.Mathlib.Nat.{add-zero, pow-suc, pow-le-pow_right}
 use native.Mathlib.Numerals.{add-one}
 use lib.Dec.{ltb, lit<}
 use borrow.Author.Tests.{ltb-true}
-use Rattle.definitions.specs.Tag
 use Rattle.definitions.specs.Tag.{row_of, tag_size}
 use Rattle.definitions.specs.Tree.{Exprs, enil, econs, place_of}
 use Rattle.definitions.specs.Instr.{Instr, plain, unused0, good_record}

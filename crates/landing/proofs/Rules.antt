@@ -215,7 +215,7 @@ pub many_labels : {M : ℕ → ℕ} {o n : ℕ} (at k : ℕ) {p : Code} {s c : �
     Piece M o (n + k) p s c [] marked S H G R ds → Piece M o n (many at k p) s c (range n k) marked S H G R ds
 unfolding many
 many_labels {n} at zero f = rw (add-zero n) at f
-many_labels {n} at (suc k) f = let e : n + suc k ≡ n + 1 + k = omega arith in labels (many_labels at k (rw e at f))
+many_labels {n} at (suc k) f = let e : n + suc k ≡ n + 1 + k = omega arith in labels (many_labels {n = n + 1} at k (rw e at f))
 
 -- a piece that uses no label of others and asks nothing
 abbrev pub Whole : (M : ℕ → ℕ) (o n : ℕ) (p : Code) (s c : ℕ) (ds : List ℤ) → Type 0
@@ -229,7 +229,7 @@ AllPlain is = Each (λ i. Carries i.tag false false) is
 pub straight : {M : ℕ → ℕ} {o n : ℕ} (is : List Instr) → AllPlain is → Whole M o n (emits is) (tag_total is) (length is) []
 unfolding emits
 straight [] h = nothing
-straight (i ∷ is) h = close (seq (plain h.0) (straight is h.1)) refl (omega arith)
+straight {o} (i ∷ is) h = close (seq (plain h.0) (straight {o = o + tag_size i.tag} is h.1)) refl (omega arith)
 
 pub requires : {M : ℕ → ℕ} {o n : ℕ} (b : Bool) (number place extra : ℕ) → Whole M o n (require b number place extra) 0 0 []
 unfolding require

@@ -17,7 +17,7 @@ use Rattle.definitions.specs.Code.{Code, act, mark, label, many, ◌then◌}
 use Rattle.definitions.specs.Lower.{instr, jump, jumps, lower_expr, primitive_default, default_instrs, lower_return, lower_return_nothing, BlockSpan, in_loop, in_switch, jump_to, mid_default, ends_group, in_group, lower_stmt, lower_matchers, lower_bodies, lower_blocks, lower_cases, lower_last, lower_branches, lower_default, lower_block}
 use Rattle.laws.proofs.Picked.{primitive_plain}
 use Rattle.laws.proofs.Sizes.{total_is, sized}
-use Rattle.landing.specs.Distance.{ahead, back, ◌and◌, Nop, Jump, JumpIfFalse, Switch, SwitchLabel, SwitchDefault, Return, size_expr, size_after_return, size_stmt, size_matchers, size_blocks, size_cases, size_last, size_branches, size_default, size_block, to_body, to_default, dist_matchers, dist_stmt, dist_blocks, dist_cases, dist_last, dist_branches, dist_default, dist_block}
+use Rattle.landing.specs.Distance.{ahead, back, ◌and◌, Jump, JumpIfFalse, Switch, SwitchLabel, SwitchDefault, Return, size_expr, size_after_return, size_stmt, size_matchers, size_blocks, size_cases, size_last, size_branches, size_default, size_block, to_body, to_default, dist_matchers, dist_stmt, dist_blocks, dist_cases, dist_last, dist_branches, dist_default, dist_block}
 use Rattle.landing.proofs.Pieces.{Piece}
 use Rattle.landing.proofs.Counts.{count_return, count_stmt, count_matchers, count_blocks, count_cases, count_last, count_branches, count_default, count_block}
 use Rattle.landing.proofs.Rules.{nothing, plain, carry, carry_back, carry2, marks, refuses, labels, seq, ends, close, guarded, last, here, either, range, range_snoc, many_labels, Whole, AllPlain, straight}
@@ -105,8 +105,8 @@ land_block_labels : {M : ℕ → ℕ} {o n : ℕ} (cs : Cases) (at next body gap
     Piece M o n (lower_matchers cs at next body) (size_matchers cs) (count_matchers cs) [] (next ∷ []) (next < n) (Blocks M cs r body p × (p ≡ o + size_matchers cs + gap)) (M next ≡ o) Unit (dist_matchers cs zero 0 gap r)
 unfolding lower_matchers size_matchers count_matchers dist_matchers Blocks row_of rows
 land_block_labels cnil at next body gap r p = close marks refl (omega arith)
-land_block_labels (ccons m b cs) at next body gap r p =
-    close (here (labels (seq (carry2 (refl, refl)) (seq (land_expr m) (land_block_labels cs at _ (body + 1) _ r (p + size_block b r)))))) refl
+land_block_labels {o} (ccons m b cs) at next body gap r p =
+    close (here (labels (seq (carry2 (refl, refl)) (seq (land_expr m) (land_block_labels {o = o + SwitchLabel + size_expr m} cs at _ (body + 1) _ r (p + size_block b r)))))) refl
     (omega arith, (λ h g. ((omega arith, omega arith), (tt, (h.0.1, omega arith)))), omega arith, omega arith, omega arith, omega arith, omega arith)
 
 land_labels : {M : ℕ → ℕ} {o n : ℕ} (cs : Cases) (at next defaultIndex D body dflt gap r p : ℕ) →
@@ -116,8 +116,8 @@ land_labels cnil at next defaultIndex D body dflt gap r p = close marks refl (om
 land_labels (ccons m b cs) at next zero D body dflt gap r p =
     close (here (labels (seq (carry2 (refl, refl)) (seq (land_expr m) (land_block_labels cs at _ (body + 1) _ r (p + D + size_block b r)))))) refl
     (omega arith, (λ h g. ((omega arith, omega arith), (tt, (h.0.2, omega arith)))), omega arith, omega arith, omega arith, omega arith, omega arith)
-land_labels (ccons m b cs) at next (suc defaultIndex) D body dflt gap r p =
-    close (here (labels (seq (carry2 (refl, refl)) (seq (land_expr m) (land_labels cs at _ defaultIndex D (body + 1) dflt _ r (p + size_block b r)))))) refl
+land_labels {o} (ccons m b cs) at next (suc defaultIndex) D body dflt gap r p =
+    close (here (labels (seq (carry2 (refl, refl)) (seq (land_expr m) (land_labels {o = o + SwitchLabel + size_expr m} cs at _ defaultIndex D (body + 1) dflt _ r (p + size_block b r)))))) refl
     (omega arith, (λ h g. ((omega arith, omega arith), (tt, (h.0.1, omega arith)))), omega arith, omega arith, omega arith, omega arith, omega arith)
 
 -- the labels, SwitchDefault, its Jump and the blocks

@@ -20,7 +20,7 @@ use Rattle.definitions.specs.Stage.{total_size, lowered, stage}
 use Rattle.landing.specs.Distance.{size_of, distances_of}
 use Rattle.landing.specs.Landed.{with_distances, all_near, is_made, Carried, Landed, Bounded, NotBelow, Each, first_out, Forward, Backward, OnlyJumpsBack}
 use Rattle.landing.specs.Walk.{actions_of}
-use Rattle.landing.proofs.Pieces.{records, Agrees, Backs}
+use Rattle.landing.proofs.Pieces.{Agrees, Backs}
 use Rattle.landing.proofs.Runs.{whole, mark_of, labels_made, labels_limit, listing, offset, agrees}
 use Rattle.landing.proofs.Starts.{distances, distances_count, size_total, records_of, unit_distances, unit_lands, unit_jumps, unit_marked}
 use Rattle.landing.proofs.Resolving.{resolves_filled, first_out_law, resolves_near}
