@@ -2,7 +2,6 @@
 use Prim.Native.Nat.{ℕ, zero, suc, ◌+◌, ◌-◌, ◌≤◌, ◌<◌}
 use mathlib.Core.Path.{◌≡◌, refl, sym, ap, ◌∙◌}
 use mathlib.Core.List.{List, [], ◌∷◌}
-use mathlib.Core.Logic.{⊎_elim}
 use mathlib.Core.Bool.{Bool, true, false, not, ◌&&◌, ◌||◌}
 use native.Mathlib.Omega.{arith}
 use native.Mathlib.Decide.{dec_lt}
@@ -11,7 +10,6 @@ use lib.Dec.{leb, ltb, eqb}
 use lib.ListN.{length, get_or, get_or-eq_default}
 use borrow.Author.Tests.{lt-ltb, le-ltb, ltb-true, ltb-false, lt-leb, le-leb, leb-true, leb-false, eq-eqb, ne_eqb, eqb-true, eqb-false}
 use denote.Enum.Declared.{tag_of}
-use types.Run.{OneOf}
 use Rattle.ir.specs.contracts.Arg.{the_type as arg-type}
 use Rattle.definitions.specs.Answer.{ok}
 use Rattle.definitions.specs.Bytes.{number}
@@ -322,12 +320,9 @@ unfolding not_place
 as_ref_true a f t h = rw h
 
 -- an argument that is no AsRef call
-pub unflagged : (s : List ℕ) (at : ℕ) (a : Arg) → a ≡ arg_at s at → OneOf (1 ∷ 2 ∷ []) (tag_of arg-type a) → false ≡ flagged_at s at
+pub unflagged : (s : List ℕ) (at : ℕ) (a : Arg) → a ≡ arg_at s at → ((x y : ℕ) → a ≡ AsRef x y → ⊥) → false ≡ flagged_at s at
 unfolding flagged_head
-unflagged s at (AsRef f t) h k = ⊎_elim (λ z. impossible z) (λ z. absurd (tag_2 z)) k
-  where
-    tag_2 : ◌≡◌ {A = ℕ} 0 2 → ⊥
-    tag_2 z = omega arith
+unflagged s at (AsRef f t) h k = absurd (k f t refl)
 unflagged s at Place h k = ap (flagged_head s) h
 unflagged s at Value h k = ap (flagged_head s) h
 

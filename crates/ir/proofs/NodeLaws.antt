@@ -8,7 +8,6 @@ use native.Mathlib.Numerals.{sub-one}
 use lib.ListN.{length}
 use borrow.Author.Tests.{lt-ltb, le-ltb}
 use denote.Enum.Declared.{tag_of}
-use Rattle.ir.specs.contracts.Class.{the_type as class-type}
 use Rattle.ir.specs.contracts.Item.{the_type as item-type}
 use Rattle.definitions.specs.Answer.{Answer, ok, refused, bind}
 use Rattle.definitions.specs.Tree.{Expr, Stmt, Block, nop, break}
@@ -81,11 +80,11 @@ a_node_of class d s end at kind stop next r₀ b r h e z d' e' k l =
     a_node (TreeOf class) (any class) s end (kind_of class (d - 1) s) at kind stop next r₀ b r h e d' e' k l ∙ ap (after r₀) (below class d s end z)
 
 -- what the kind asks is read by the class
-pub a_statement : (class : Class) (d : ℕ) (s : List ℕ) (kind at end : ℕ) (r₀ r : Read) → tag_of class-type class ≡ 0 → r ≡ after r₀ (kind_of Statement d s kind at end) → r ≡ after r₀ (kind_of class d s kind at end)
+pub a_statement : (class : Class) (d : ℕ) (s : List ℕ) (kind at end : ℕ) (r₀ r : Read) → class ≡ Statement → r ≡ after r₀ (kind_of Statement d s kind at end) → r ≡ after r₀ (kind_of class d s kind at end)
 a_statement Statement d s kind at end r₀ r h e = e
 a_statement Expression d s kind at end r₀ r h e = impossible (cc)
 
-pub an_expression : (class : Class) (d : ℕ) (s : List ℕ) (kind at end : ℕ) (r₀ r : Read) → tag_of class-type class ≡ 1 → r ≡ after r₀ (kind_of Expression d s kind at end) → r ≡ after r₀ (kind_of class d s kind at end)
+pub an_expression : (class : Class) (d : ℕ) (s : List ℕ) (kind at end : ℕ) (r₀ r : Read) → class ≡ Expression → r ≡ after r₀ (kind_of Expression d s kind at end) → r ≡ after r₀ (kind_of class d s kind at end)
 an_expression Statement d s kind at end r₀ r h e = impossible (cc)
 an_expression Expression d s kind at end r₀ r h e = e
 

@@ -1,4 +1,6 @@
 // Reads a unit without building its tree: whether the parser of `definitions` takes it, and if not, the parser's refusal.
+#![tactic(auto)]
+
 ghost use Rattle.std.specs.Prelude.{◌≡◌};
 ghost use Rattle.definitions.specs.Read.{front_good, parse_unit};
 ghost use Rattle.ir.specs.Verdict.{scripted, unit_of};
@@ -19,7 +21,7 @@ pub const UNIT_LIMIT: usize = 1048576;
 pub const DEPTH_LIMIT: usize = 200;
 
 // Why a unit is not taken: the number of the refusal, its place and an extra number.
-#[derive(Drop)]
+#[derive(Clone, Copy)]
 pub struct Refusal {
     pub number: usize,
     pub place: usize,
@@ -27,49 +29,49 @@ pub struct Refusal {
 }
 
 // Where the reader stands: at a position, or stopped by a refusal, which stays.
-#[derive(Drop)]
+#[derive(Clone, Copy)]
 pub enum Read {
     At(usize),
     Refused(Refusal),
 }
 
 // A number that was read and the position after it, or the refusal.
-#[derive(Drop)]
+#[derive(Clone, Copy)]
 pub enum Number {
     Is { value: usize, next: usize },
     Not(Refusal),
 }
 
 // A node's kind, its end and where its fields begin, or the refusal.
-#[derive(Drop)]
+#[derive(Clone, Copy)]
 pub enum Head {
     Of { kind: u8, end: usize, body: usize },
     No(Refusal),
 }
 
 // A unit's return byte and where its block ends, or the refusal.
-#[derive(Drop)]
+#[derive(Clone, Copy)]
 pub enum ReadUnit {
     Reads { returns: usize, end: usize },
     Fails(Refusal),
 }
 
 // The classes of nodes.
-#[derive(Drop)]
+#[derive(Clone, Copy)]
 pub enum Class {
     Statement,
     Expression,
 }
 
 // What a run holds: nodes of a class, or conditions (matchers) with a block each.
-#[derive(Drop)]
+#[derive(Clone, Copy)]
 pub enum Item {
     Node(Class),
     Arm,
 }
 
 // The head of an argument: an AsRef call, with where its arguments begin and end; one that is not a prvalue; any other.
-#[derive(Drop)]
+#[derive(Clone, Copy)]
 pub enum Arg {
     AsRef { first: usize, stop: usize },
     Place,

@@ -12,7 +12,7 @@ use super::fields::{
 use super::{Class, Head, Item, Number, Read, Refusal, expr, stmt};
 
 // A node of a class, in a holder that ends at `end`: its depth, its head, what its kind asks, its end.
-#[cycle(expr_kind_fill_run_late_kind_read_call_read_default_read_item_read_list_read_node_read_return_read_run_stmt_kind)]
+#[cycle(nodes)]
 pub fn read_node(s: &[u8], from: Read, end: usize, depth: usize, class: Class) -> Read
     requires { end ≤ length s.now }
     ensures { result ≡ after from (node_of class depth s.now end) }
@@ -47,7 +47,7 @@ pub fn read_node(s: &[u8], from: Read, end: usize, depth: usize, class: Class) -
 }
 
 // What the statement's kind asks, with depth for the nodes in it.
-#[cycle(expr_kind_fill_run_late_kind_read_call_read_default_read_item_read_list_read_node_read_return_read_run_stmt_kind)]
+#[cycle(nodes)]
 fn stmt_kind(s: &[u8], from: Read, node: usize, end: usize, kind: u8, depth: usize) -> Read
     requires { end ≤ length s.now }
     ensures { result ≡ after from (kind_of Statement depth s.now kind node end) }
@@ -89,7 +89,7 @@ fn stmt_kind(s: &[u8], from: Read, node: usize, end: usize, kind: u8, depth: usi
 }
 
 // What the expression's kind asks, with depth for the nodes in it.
-#[cycle(expr_kind_fill_run_late_kind_read_call_read_default_read_item_read_list_read_node_read_return_read_run_stmt_kind)]
+#[cycle(nodes)]
 fn expr_kind(s: &[u8], from: Read, node: usize, end: usize, kind: u8, depth: usize) -> Read
     requires { end ≤ length s.now }
     ensures { result ≡ after from (kind_of Expression depth s.now kind node end) }
@@ -129,7 +129,7 @@ fn expr_kind(s: &[u8], from: Read, node: usize, end: usize, kind: u8, depth: usi
 }
 
 // The same for the kinds from 10 on, most of which are calls.
-#[cycle(expr_kind_fill_run_late_kind_read_call_read_default_read_item_read_list_read_node_read_return_read_run_stmt_kind)]
+#[cycle(nodes)]
 fn late_kind(s: &[u8], from: Read, node: usize, end: usize, kind: u8, depth: usize) -> Read
     requires { (end ≤ length s.now) × (9 < kind) }
     ensures { result ≡ after from (kind_of Expression depth s.now kind node end) }
@@ -169,7 +169,7 @@ fn late_kind(s: &[u8], from: Read, node: usize, end: usize, kind: u8, depth: usi
 }
 
 // A function and the arguments that it is called with.
-#[cycle(expr_kind_fill_run_late_kind_read_call_read_default_read_item_read_list_read_node_read_return_read_run_stmt_kind)]
+#[cycle(nodes)]
 fn read_call(s: &[u8], from: Read, node: usize, end: usize, depth: usize) -> Read
     requires { end ≤ length s.now }
     ensures { result ≡ after from (calling s.now (parse_expr depth s.now) node end) }
@@ -186,7 +186,7 @@ fn read_call(s: &[u8], from: Read, node: usize, end: usize, depth: usize) -> Rea
 }
 
 // A run: its length, then items that fill it.
-#[cycle(expr_kind_fill_run_late_kind_read_call_read_default_read_item_read_list_read_node_read_return_read_run_stmt_kind)]
+#[cycle(nodes)]
 pub fn read_run(s: &[u8], from: Read, end: usize, depth: usize, item: Item) -> Read
     requires { end ≤ length s.now }
     ensures { result ≡ after from (run s.now end (item_of item depth s.now)) }
@@ -195,7 +195,7 @@ pub fn read_run(s: &[u8], from: Read, end: usize, depth: usize, item: Item) -> R
 }
 
 // The same, with the number of items.
-#[cycle(expr_kind_fill_run_late_kind_read_call_read_default_read_item_read_list_read_node_read_return_read_run_stmt_kind)]
+#[cycle(nodes)]
 fn read_list(s: &[u8], from: Read, end: usize, depth: usize, item: Item) -> Number
     requires { end ≤ length s.now }
     ensures { result ≡ counted_after length from (run s.now end (item_of item depth s.now)) }
@@ -213,7 +213,7 @@ fn read_list(s: &[u8], from: Read, end: usize, depth: usize, item: Item) -> Numb
 }
 
 // Items from `first` up to `stop`, and how many.
-#[cycle(expr_kind_fill_run_late_kind_read_call_read_default_read_item_read_list_read_node_read_return_read_run_stmt_kind)]
+#[cycle(nodes)]
 fn fill_run(s: &[u8], first: usize, stop: usize, depth: usize, item: Item) -> Number
     requires { stop ≤ length s.now }
     ensures { result ≡ counted_after length (Read.At first) (filling (item_of item depth s.now) stop) }
@@ -238,7 +238,7 @@ fn fill_run(s: &[u8], first: usize, stop: usize, depth: usize, item: Item) -> Nu
 }
 
 // An item of a run: a node, or an arm, which is a condition (a matcher) and a block.
-#[cycle(expr_kind_fill_run_late_kind_read_call_read_default_read_item_read_list_read_node_read_return_read_run_stmt_kind)]
+#[cycle(nodes)]
 fn read_item(s: &[u8], from: Read, end: usize, depth: usize, item: Item) -> Read
     requires { end ≤ length s.now }
     ensures { result ≡ after from (item_of item depth s.now end) }
@@ -253,7 +253,7 @@ fn read_item(s: &[u8], from: Read, end: usize, depth: usize, item: Item) -> Read
 }
 
 // The default block, where its mark is 1.
-#[cycle(expr_kind_fill_run_late_kind_read_call_read_default_read_item_read_list_read_node_read_return_read_run_stmt_kind)]
+#[cycle(nodes)]
 fn read_default(s: &[u8], from: Read, end: usize, depth: usize, mark: usize) -> Read
     requires { end ≤ length s.now }
     ensures { result ≡ after from (block_if mark (run s.now end (parse_stmt depth s.now))) }
@@ -265,7 +265,7 @@ fn read_default(s: &[u8], from: Read, end: usize, depth: usize, mark: usize) -> 
 }
 
 // The expression that is returned, where its mark is 1.
-#[cycle(expr_kind_fill_run_late_kind_read_call_read_default_read_item_read_list_read_node_read_return_read_run_stmt_kind)]
+#[cycle(nodes)]
 fn read_return(s: &[u8], from: Read, node: usize, end: usize, depth: usize, mark: usize) -> Read
     requires { end ≤ length s.now }
     ensures { result ≡ after from (return_if mark node (parse_expr depth s.now end)) }
