@@ -1,4 +1,6 @@
 // The text of a listing or of a refusal, in a lent buffer: document 01's printed form.
+#![tactic(auto)]
+
 ghost use Rattle.std.specs.Prelude.{◌≤◌, length};
 ghost use Rattle.definitions.specs.Listing.{front_length, record_limit, records_from};
 ghost use Rattle.definitions.specs.Stage.{lines_from};
@@ -14,14 +16,14 @@ use instr::listings;
 use instr::listings::Checked;
 
 // What a record's first and second are: the signed distances of a resolved listing, or the labels of one that is not resolved.
-#[derive(Drop)]
+#[derive(Clone, Copy)]
 pub enum Form {
     Distances,
     Labels,
 }
 
 // The length of the text that was written; or 30, no listing; or 20, a buffer that is too short.
-#[derive(Drop)]
+#[derive(Clone, Copy)]
 pub enum Text {
     Done { length: usize },
     Bad,
