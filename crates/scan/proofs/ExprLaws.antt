@@ -2,19 +2,19 @@
 -- What a function is given comes as the code has it: `Or0` of what was found, so that a 0 that was handed on needs no test.
 use Prim.Native.Nat.{ℕ, zero, suc, ◌+◌, ◌-◌, ◌≤◌, ◌<◌}
 use mathlib.Core.Path.{◌≡◌, refl, sym, ap, ◌∙◌}
-use mathlib.Core.Bool.{Bool, true, false, cond, ◌&&◌, not, true≢false}
+use mathlib.Core.Bool.{Bool, true, false, cond, ◌&&◌, true≢false}
 use mathlib.Core.List.{List, [], ◌∷◌}
 use mathlib.Core.Logic.{inl, inr}
 use native.Mathlib.Omega.{arith}
 use lib.Dec.{eqb, leb}
 use lib.ListN.{length, get_or}
-use borrow.Author.Tests.{le-leb, leb-true, lt-ltb, eq-eqb, eqb-true, not-false}
+use borrow.Author.Tests.{le-leb, leb-true, lt-ltb, eq-eqb, eqb-true}
 use Rattle.definitions.specs.Answer.{ok}
 use Rattle.definitions.specs.Bytes.{number}
 use Rattle.definitions.specs.Tag.{intrinsic_of}
 use Rattle.definitions.specs.Tree.{Callee, Expr, Exprs, nop, const, null, new_instance, construct, assign, field, index, conditional, dyn_cast, local, intrinsic, free_call, static_call, instance_call, closure_call, exprs_of, length_exprs}
 use Rattle.definitions.specs.Read.{Parser, ◌>>=◌, give, span, head, ended, filling, run, pick, callee, arguments, as_nop, as_null, as_new_instance, as_construct, as_assign, as_field, as_index, as_conditional, as_dyn_cast, as_local, as_intrinsic, as_free_call, as_static_call, as_instance_call, as_closure_call, expr_kinds, expr_body, parse_expr}
-use Rattle.definitions.specs.Code.{Code, label}
+use Rattle.definitions.specs.Code.{Code}
 use Rattle.definitions.specs.Lower.{weak_to_ref, lower_field, emit_invoke, emit_call, require_flags, lower_expr, lower_exprs}
 use Rattle.laws.proofs.Trees.{length_exprs_law}
 use Rattle.steps.proofs.RunLaws.{marks_long}
@@ -44,8 +44,8 @@ paid left left' k true e q = omega (arith, leb-true k left (sym e.0), e.1)
 paid left left' k false e q = absurd (true≢false (sym q))
 
 -- where the code tests that it was not refused
-pub went : (left left' k : ℕ) (r : Bool) → (r ≡ leb k left) × (left' ≡ cond r (left - k) left) → not r ≡ false → left' + k ≡ left
-went left left' k r e q = paid left left' k r e (not-false r q)
+pub went : (left left' k : ℕ) (r : Bool) → (r ≡ leb k left) × (left' ≡ cond r (left - k) left) → r ≡ true → left' + k ≡ left
+went left left' k r e q = paid left left' k r e q
 
 -- w bytes of fields, of which the one at k is below a bound
 abbrev pub FieldsAt : (s : List ℕ) (at stop w k bound r : ℕ) → Type 0
@@ -301,13 +301,13 @@ both_true true b e = refl
 both_true false b e = e
 
 pub intrinsic_found : {d : ℕ} {s : List ℕ} {stop at a r m n k l k' l' c h y : ℕ} {b : Bool} → get_or s (at + 4) 0 ≡ 12 → Or0 a (FieldsAt s (at + 5) stop 7 0 34 a) → 0 < a
-    → c ≡ get_or s (at + 5) 0 → h ≡ get_or s (at + 6) 0 → y ≡ get_or s (at + 7) 0 → b ≡ (eqb h 0 && eqb y (intrinsic_of c).types) → not b ≡ false
+    → c ≡ get_or s (at + 5) 0 → h ≡ get_or s (at + 6) 0 → y ≡ get_or s (at + 7) 0 → b ≡ (eqb h 0 && eqb y (intrinsic_of c).types) → b ≡ true
     → Or0 r (RunAt d s stop a r m k l n k' l') → Or0 r (BodyAt d s stop at r k l k' l')
 unfolding expr_body expr_kinds pick as_intrinsic give ◌>>=◌ lower_expr
 intrinsic_found q x p e₁ e₂ e₃ f o (inl e) = inl e
 intrinsic_found {d} {s} {stop} {at} {a} {b = b} q x p e₁ e₂ e₃ j o (inr g) =
     let f = found x p in
-    let t : (eqb (get_or s (at + 6) 0) 0 && eqb (get_or s (at + 7) 0) (intrinsic_of (get_or s (at + 5) 0)).types) ≡ true = rw (e₁, e₂, e₃) at (sym j ∙ not-false b o) in
+    let t : (eqb (get_or s (at + 6) 0) 0 && eqb (get_or s (at + 7) 0) (intrinsic_of (get_or s (at + 5) 0)).types) ≡ true = rw (e₁, e₂, e₃) at (sym j ∙ o) in
     let z = eqb-true (get_or s (at + 6) 0) 0 (both_true _ _ t) in
     inr (record {
       tree = intrinsic at (get_or s (at + 5) 0) (get_or s (at + 6) 0) (get_or s (at + 7) 0) (number 4 s (at + 8)) (exprs_of g.trees);

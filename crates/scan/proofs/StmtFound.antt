@@ -167,12 +167,12 @@ module _ (d : ℕ) (s : List ℕ) (stop at : ℕ) where
         }
 
 -- a Return's own records, as the code chooses them
-pub own_pays : {A B : Type 0} (r own : ℕ) → (A × (own ≡ 2)) ⊎ (B × (own ≡ 1)) → (A → r ≡ 0) → (B → r ≡ 0 → ⊥) → returned r ≤ own
+pub own_pays : (r own : ℕ) → ((r ≡ 0) × (own ≡ 2)) ⊎ ((r ≡ 0 → ⊥) × (own ≡ 1)) → returned r ≤ own
 unfolding returned
-own_pays zero own (inl x) f g = omega (arith, x.1)
-own_pays zero own (inr y) f g = absurd (g y.0 refl)
-own_pays (suc r) own (inl x) f g = omega (arith, x.1)
-own_pays (suc r) own (inr y) f g = omega (arith, y.1)
+own_pays zero own (inl x) = omega (arith, x.1)
+own_pays zero own (inr y) = absurd (y.0 refl)
+own_pays (suc r) own (inl x) = omega (arith, x.1)
+own_pays (suc r) own (inr y) = omega (arith, y.1)
 
 -- a switch without a default, and with one, as the code finds its parts
 module _ (d : ℕ) (s : List ℕ) (stop at : ℕ) (inside : ℕ) {n b c iw ix m k l k₁ l₁ k₂ l₂ k₃ l₃ returns : ℕ} (q : get_or s (at + 4) 0 ≡ 5) (p : k₁ + 1 ≡ k) (i : l₁ + 2 ≡ l) (w : at + 5 + 4 ≤ stop)

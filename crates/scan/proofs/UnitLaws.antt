@@ -1,9 +1,9 @@
 -- From a block that was found to a unit that fits. Assumes nothing.
 use Prim.Native.Nat.{ℕ, ◌≤◌}
-use mathlib.Core.Bool.{Bool, true, false, not}
+use mathlib.Core.Bool.{Bool, true}
 use mathlib.Core.List.{List}
 use mathlib.Core.Logic.{inl, inr}
-use mathlib.Core.Path.{◌≡◌, refl, sym}
+use mathlib.Core.Path.{◌≡◌, refl, sym, ◌∙◌}
 use native.Mathlib.Omega.{arith}
 use lib.Dec.{eqb}
 use lib.ListN.{length, get_or}
@@ -12,7 +12,6 @@ use Rattle.definitions.specs.Answer.{ok, bind}
 use Rattle.definitions.specs.Tree.{Stmt, block_of}
 use Rattle.definitions.specs.Read.{◌>>=◌, run, ended, parse_stmt, front_good, parse_unit, depth_limit}
 use Rattle.definitions.specs.Lower.{outside}
-use Rattle.laws.proofs.Inversion.{impossible}
 use Rattle.ir.proofs.UnitLaws.{front_room}
 use Rattle.scan.specs.Scanned.{Or0, Allows, BlockAt, Fits}
 use Rattle.scan.proofs.TameLaws.{tame_more}
@@ -20,9 +19,8 @@ use Rattle.scan.proofs.TameLaws.{tame_more}
 -- 1. The front
 
 -- a front that is not refused
-pub front_is_good : (s : List ℕ) (b : Bool) → b ≡ front_good s → not b ≡ false → front_good s ≡ true
-front_is_good s true e h = sym e
-front_is_good s false e h = impossible (cc)
+pub front_is_good : (s : List ℕ) (b : Bool) → b ≡ front_good s → b ≡ true → front_good s ≡ true
+front_is_good s b e h = sym e ∙ h
 
 pub front_six : (s : List ℕ) → front_good s ≡ true → 6 ≤ length s
 front_six s g = front_room s (front_good s) refl g

@@ -12,7 +12,7 @@ use steps::tags::typed;
 pub(crate) const ITEMS: usize = 1048576;
 
 // An expression. Every kind emits a record at least, which is paid here.
-#[cycle(late_expr_scan_args_scan_call_scan_closure_scan_construct_scan_expr_scan_field_scan_instance_scan_intrinsic_scan_run)]
+#[cycle(exprs)]
 pub(crate) fn scan_expr(
     s: &[u8],
     at: usize,
@@ -62,7 +62,7 @@ pub(crate) fn scan_expr(
 }
 
 // The kinds that make labels or hold a run.
-#[cycle(late_expr_scan_args_scan_call_scan_closure_scan_construct_scan_expr_scan_field_scan_instance_scan_intrinsic_scan_run)]
+#[cycle(exprs)]
 fn late_expr(
     s: &[u8],
     at: usize,
@@ -102,7 +102,7 @@ fn late_expr(
 }
 
 // Field: behind a Context, one record more, one for a weak reference, and a label.
-#[cycle(late_expr_scan_args_scan_call_scan_closure_scan_construct_scan_expr_scan_field_scan_instance_scan_intrinsic_scan_run)]
+#[cycle(exprs)]
 fn scan_field(
     s: &[u8],
     at: usize,
@@ -131,7 +131,7 @@ fn scan_field(
 }
 
 // Construct, with fewer than 256 arguments.
-#[cycle(late_expr_scan_args_scan_call_scan_closure_scan_construct_scan_expr_scan_field_scan_instance_scan_intrinsic_scan_run)]
+#[cycle(exprs)]
 fn scan_construct(
     s: &[u8],
     at: usize,
@@ -151,7 +151,7 @@ fn scan_construct(
 }
 
 // An intrinsic call, without short-circuit mark and with the types that it needs.
-#[cycle(late_expr_scan_args_scan_call_scan_closure_scan_construct_scan_expr_scan_field_scan_instance_scan_intrinsic_scan_run)]
+#[cycle(exprs)]
 fn scan_intrinsic(
     s: &[u8],
     at: usize,
@@ -175,7 +175,7 @@ fn scan_intrinsic(
 }
 
 // An instance call: a Context, one record more for a weak reference, the object and the call.
-#[cycle(late_expr_scan_args_scan_call_scan_closure_scan_construct_scan_expr_scan_field_scan_instance_scan_intrinsic_scan_run)]
+#[cycle(exprs)]
 fn scan_instance(
     s: &[u8],
     at: usize,
@@ -202,7 +202,7 @@ fn scan_instance(
 }
 
 // A closure call: a Context, the closure, the invoke, the arguments, ParamEnd.
-#[cycle(late_expr_scan_args_scan_call_scan_closure_scan_construct_scan_expr_scan_field_scan_instance_scan_intrinsic_scan_run)]
+#[cycle(exprs)]
 fn scan_closure(
     s: &[u8],
     at: usize,
@@ -232,7 +232,7 @@ fn scan_closure(
 }
 
 // A run of expressions, no more than `items`.
-#[cycle(late_expr_scan_args_scan_call_scan_closure_scan_construct_scan_expr_scan_field_scan_instance_scan_intrinsic_scan_run)]
+#[cycle(exprs)]
 pub(crate) fn scan_run(
     s: &[u8],
     at: usize,
@@ -264,7 +264,7 @@ pub(crate) fn scan_run(
 }
 
 // A function, whose fields begin at `at`, and its arguments, which end at `stop`.
-#[cycle(late_expr_scan_args_scan_call_scan_closure_scan_construct_scan_expr_scan_field_scan_instance_scan_intrinsic_scan_run)]
+#[cycle(exprs)]
 fn scan_call(
     s: &[u8],
     at: usize,
@@ -304,7 +304,7 @@ fn scan_call(
 
 // Arguments up to `stop`, no more than the n parameters whose marks begin at `params`: behind a Skip where the mark is 1, a Nop for each
 // that is absent, and none flagged from index 16 on.
-#[cycle(late_expr_scan_args_scan_call_scan_closure_scan_construct_scan_expr_scan_field_scan_instance_scan_intrinsic_scan_run)]
+#[cycle(exprs)]
 fn scan_args(
     s: &[u8],
     at: usize,
@@ -348,7 +348,7 @@ fn before_arg(
     labels: &mut usize,
 ) -> bool
     requires { params + n ≤ length s.now }
-    ensures { «r» ≡ true → BeforeArg s.now at k params n records.old labels.old records.new labels.new }
+    ensures { result ≡ true → BeforeArg s.now at k params n records.old labels.old records.new labels.new }
 {
     if n <= k {
         return false;

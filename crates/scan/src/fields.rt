@@ -111,7 +111,7 @@ pub(crate) fn after_const(s: &[u8], at: usize, stop: usize) -> usize
 // Whether n bytes are marks.
 pub(crate) fn marks_good(s: &[u8], at: usize, n: usize) -> bool
     requires { at + n ≤ length s.now }
-    ensures { «r» ≡ true → all_marks s.now at n }
+    ensures { result ≡ true → all_marks s.now at n }
 {
     let mut k = 0;
     while k < n {

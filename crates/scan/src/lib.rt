@@ -1,6 +1,8 @@
 // One pass over the bytes of a unit, for units as they mostly are: it reads, no rule refuses it, and the room suffices. The pass counts
 // down what is left of records and labels, and carries no refusal. Where it does not answer yes, it says nothing, and the plain reader
 // and the dry walk decide.
+#![tactic(auto)]
+
 ghost use Rattle.std.specs.Prelude.{◌≡◌, true};
 ghost use Rattle.scan.specs.Scanned.{Fits};
 
@@ -14,7 +16,7 @@ use stmts::scan_block;
 
 // Whether a unit is read, is refused nowhere, and takes no more than so many records and labels. False says nothing.
 pub fn fits(unit: &[u8], records: usize, labels: usize) -> bool
-    ensures { «r» ≡ true → Fits unit.now records labels }
+    ensures { result ≡ true → Fits unit.now records labels }
 {
     if !ir::front_good(unit) {
         return false;

@@ -9,7 +9,7 @@ use instr::numbers::{u32_inside, wide};
 use ir::stmt;
 
 // A block: its length and statements that fill it.
-#[cycle(scan_arms_scan_block_scan_branches_scan_cases_scan_stmt_scan_switch_scan_while)]
+#[cycle(stmts)]
 pub(crate) fn scan_block(
     s: &[u8],
     at: usize,
@@ -51,7 +51,7 @@ pub(crate) fn scan_block(
 }
 
 // What the statement's kind asks, of any kind but Expr.
-#[cycle(scan_arms_scan_block_scan_branches_scan_cases_scan_stmt_scan_switch_scan_while)]
+#[cycle(stmts)]
 fn scan_stmt(
     s: &[u8],
     at: usize,
@@ -125,7 +125,7 @@ fn default_count(byte: u8) -> usize
 }
 
 // While: JumpIfFalse and Jump, and two labels.
-#[cycle(scan_arms_scan_block_scan_branches_scan_cases_scan_stmt_scan_switch_scan_while)]
+#[cycle(stmts)]
 fn scan_while(
     s: &[u8],
     at: usize,
@@ -206,7 +206,7 @@ fn scan_return(
 }
 
 // Branches: two labels, and two records and a label for each.
-#[cycle(scan_arms_scan_block_scan_branches_scan_cases_scan_stmt_scan_switch_scan_while)]
+#[cycle(stmts)]
 fn scan_branches(
     s: &[u8],
     at: usize,
@@ -238,7 +238,7 @@ fn scan_branches(
 }
 
 // The run of branches.
-#[cycle(scan_arms_scan_block_scan_branches_scan_cases_scan_stmt_scan_switch_scan_while)]
+#[cycle(stmts)]
 fn scan_arms(
     s: &[u8],
     at: usize,
@@ -285,7 +285,7 @@ fn in_switch(inside: usize) -> usize
 }
 
 // Switch: the Switch and two labels, its cases, its default.
-#[cycle(scan_arms_scan_block_scan_branches_scan_cases_scan_stmt_scan_switch_scan_while)]
+#[cycle(stmts)]
 fn scan_switch(
     s: &[u8],
     at: usize,
@@ -341,7 +341,7 @@ fn scan_switch(
 }
 
 // The run of cases: a record each, and the labels of either layout. A mid default has a Jump.
-#[cycle(scan_arms_scan_block_scan_branches_scan_cases_scan_stmt_scan_switch_scan_while)]
+#[cycle(stmts)]
 fn scan_cases(
     s: &[u8],
     at: usize,
@@ -386,7 +386,7 @@ fn scan_cases(
 // What n cases take: a record and a label each; a mid default's Jump, its body and theirs, or else a body for each group.
 fn pay_cases(n: usize, groups: usize, mid: bool, records: &mut usize, labels: &mut usize) -> bool
     requires { (groups ≤ n) × (n < 2 ^ 63) }
-    ensures { «r» ≡ true → (records.new + (n + cond «mid» 1 0) ≡ records.old) × (labels.new + (n + cond «mid» (n + 1) groups) ≡ labels.old) }
+    ensures { result ≡ true → (records.new + (n + cond «mid» 1 0) ≡ records.old) × (labels.new + (n + cond «mid» (n + 1) groups) ≡ labels.old) }
 {
     if mid {
         if !pay(records, n + 1) {

@@ -4,7 +4,7 @@ use Rattle.definitions.specs.Answer.{ok}
 use Rattle.definitions.specs.Bytes.{number}
 use Rattle.definitions.specs.Instr.{record_bytes}
 use Rattle.definitions.specs.Tree.{Expr, Exprs, enil, econs, exprs_of, place_of}
-use Rattle.definitions.specs.Read.{◌>>=◌, parse_expr}
+use Rattle.definitions.specs.Read.{parse_expr}
 use Rattle.definitions.specs.Code.{Code, ◌then◌}
 use Rattle.definitions.specs.Tag.{InvokeStatic, InvokeVirtual}
 use Rattle.definitions.specs.Lower.{is_flagged, flags_of, require_flags, require, invoke, emit_invoke}

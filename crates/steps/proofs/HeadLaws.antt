@@ -16,7 +16,6 @@ use Rattle.ir.specs.Places.{end_of, ExprAt, RunAt}
 use Rattle.ir.specs.declared.Class.TheVariants.{Expression}
 use Rattle.ir.proofs.Inversion.{expr_at, expr_moves, fill_nil, fill_cons}
 use Rattle.ir.proofs.ExprPlaces.{nop_at, const_at, null_at, new_instance_at, construct_at, assign_at, index_at, dyn_cast_at, local_at, intrinsic_at_law, no_other}
-use Rattle.steps.specs.Running.{run}
 use Rattle.steps.specs.Walked.{Accepted, code_of, list_of, expr_code, fill_code, exprs_from, const_code, construct_code, intrinsic_code, heads, head_of, head_code, makes_labels, parts_from, parts_at, Emitted, Left}
 use Rattle.steps.specs.declared.Walk.{Walk}
 use Rattle.steps.proofs.StepLaws.{both, SameRun, same_assoc, same_right, same_on, same_back, same_code, same_end}

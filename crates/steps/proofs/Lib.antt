@@ -3,5 +3,3 @@ pub mod RunLaws
 mod LeafLaws
 mod FlagLaws
 pub mod HeadLaws
-pub mod ByHand
-pub mod Lending

@@ -1,5 +1,5 @@
 -- One step of the walk after another. Assumes nothing.
-use Rattle.std.proofs.Common.{◌≡◌, ℕ, zero, suc, ◌+◌, ◌-◌, ◌*◌, ◌/◌, ◌%◌, ◌^◌, ◌<◌, ◌≤◌, Bool, true, false, cond, leb, List, [], ◌∷◌, ◌++◌, length, take, drop, set, sym, refl, ap, ◌∙◌, append-nil, arith, length-drop, length-set, drop_of_length-le, take_all, drop-drop, le-ltb, lt-ltb, le-leb, leb-false, leb-true}
+use Rattle.std.proofs.Common.{◌≡◌, ℕ, zero, suc, ◌+◌, ◌-◌, ◌/◌, ◌%◌, ◌^◌, ◌<◌, ◌≤◌, Bool, true, false, cond, leb, List, [], ◌∷◌, ◌++◌, length, take, drop, set, sym, refl, ap, ◌∙◌, append-nil, arith, length-drop, length-set, drop_of_length-le, take_all, drop-drop, le-ltb, lt-ltb, le-leb, leb-false, leb-true}
 use borrow.Author.Tests.{lt-leb}
 use borrow.Rule.Slice.PartMut.{put_mid}
 use Rattle.definitions.specs.Bytes.{bytes}

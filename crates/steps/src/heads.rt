@@ -85,7 +85,7 @@ pub fn head(s: &[u8], at: usize, end: usize, depth: usize, w: Walk, out: &mut [u
 
 // Whether the rule of this kind makes labels. Every other kind is one record and then its parts in order.
 pub fn makes_labels(kind: u8) -> bool
-    ensures { «r» ≡ makes_labels kind }
+    ensures { result ≡ makes_labels kind }
 {
     match kind {
         expr::FIELD => true,

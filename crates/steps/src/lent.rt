@@ -37,7 +37,7 @@ fn marked(c: Counters, label: usize, marks: &mut [u32])
     labels::put_made(marks, label, c.offset, c.labels);
 }
 
-// What is lent is copied out whole and stored back whole around one call by value: that keeps the proofs by hand short.
+// What is lent is copied out whole and stored back whole around one call by value: what that call ensures is all that there is to prove.
 pub fn emit(c: &mut Counters, op: Op, out: &mut [u8])
     ensures { (c.new ≡ emitted_of c.old (instr_of op)) × (out.new ≡ listed c.old (instr_of op) out.old) }
 {
@@ -58,7 +58,7 @@ pub fn mark_label(c: &mut Counters, label: usize, marks: &mut [u32])
     marked(*c, label, marks);
 }
 
-// The three by value, which the walk calls: a function that makes a reference to a struct is proved by hand too, so these alone make one.
+// The three by value, which the walk calls: these alone make a reference to the counters.
 pub(crate) fn with_record(c: Counters, op: Op, out: &mut [u8]) -> Counters
     ensures { (result ≡ emitted_of c (instr_of op)) × (out.new ≡ listed c (instr_of op) out.old) }
 {

@@ -1,4 +1,6 @@
 // The steps of the lowering walk, none of which holds a node. Each changes what it is lent, and nothing else.
+#![tactic(auto)]
+
 pub mod calls;
 pub mod heads;
 pub mod labels;
@@ -14,7 +16,7 @@ pub mod tags;
 use ir::Refusal;
 
 // What has been emitted: its virtual size, how many labels, how many records. Lent and changed in `lent`.
-#[derive(Drop)]
+#[derive(Clone, Copy)]
 pub struct Counters {
     pub offset: u32,
     pub labels: u32,
@@ -22,21 +24,21 @@ pub struct Counters {
 }
 
 // Where the walk stands: at its counters, or stopped by a refusal, which stays.
-#[derive(Drop)]
+#[derive(Clone, Copy)]
 pub enum Walk {
     Going(Counters),
     Stopped(Refusal),
 }
 
 // Where a break or a continue goes; the body label of a group that is open.
-#[derive(Drop)]
+#[derive(Clone, Copy)]
 pub enum Target {
     Nowhere,
     Label(usize),
 }
 
 // Where break and continue go, and the unit's return byte.
-#[derive(Drop)]
+#[derive(Clone, Copy)]
 pub struct BlockSpan {
     pub break_target: Target,
     pub continue_target: Target,
@@ -44,7 +46,7 @@ pub struct BlockSpan {
 }
 
 // A record before its fields are cut to their widths.
-#[derive(Drop)]
+#[derive(Clone, Copy)]
 pub struct Op {
     pub tag: u8,
     pub small: usize,

@@ -22,7 +22,7 @@ pub(crate) fn put_record(out: &mut [u8], k: u32, r: Record)
     }
 }
 
-// The record, each field cut to its width. No bit is lost: what the walk of a unit emits is within the widths (landing's emitted-records).
+// The record, each field cut to its width. No bit is lost: what the walk of a unit emits is within the widths (landing's emitted_records).
 pub(crate) fn record_of(op: Op) -> Record
     ensures { Values.instr_of result ≡ record { tag = op.tag; small = op.small % 2 ^ 8; first = op.first % 2 ^ 16; second = op.second % 2 ^ 16; line = op.line; flags = op.flags; value = op.value; node = op.node % 2 ^ 32 } }
 {

@@ -27,7 +27,7 @@ use steps::switches::{ends_group, group_after, group_label, is_mid, is_same, mar
 use steps::{BlockSpan, Target, Walk};
 
 // An expression that was read, in a holder that ends at `end`.
-#[cycle(arg_args_assemble_expr_closure_emit_call_exprs_field_instance_node_ternary)]
+#[cycle(exprs)]
 fn node(
     s: &[u8],
     at: usize,
@@ -47,7 +47,7 @@ fn node(
 }
 
 // A statement that is neither an expression nor a block.
-#[cycle(arm_arms_assemble_bodies_branches_case_cases_default_inside_mid_repeat_stmts_switch)]
+#[cycle(stmts)]
 fn assemble(
     s: &[u8],
     at: usize,
@@ -84,7 +84,7 @@ fn assemble(
 }
 
 // An expression whose rule makes labels.
-#[cycle(arg_args_assemble_expr_closure_emit_call_exprs_field_instance_node_ternary)]
+#[cycle(exprs)]
 fn assemble_expr(
     s: &[u8],
     at: usize,
@@ -120,7 +120,7 @@ fn assemble_expr(
 }
 
 // Field: of a struct, or of an object behind a Context.
-#[cycle(arg_args_assemble_expr_closure_emit_call_exprs_field_instance_node_ternary)]
+#[cycle(exprs)]
 fn field(
     s: &[u8],
     at: usize,
@@ -155,7 +155,7 @@ fn field(
 }
 
 // Conditional.
-#[cycle(arg_args_assemble_expr_closure_emit_call_exprs_field_instance_node_ternary)]
+#[cycle(exprs)]
 fn ternary(
     s: &[u8],
     at: usize,
@@ -189,7 +189,7 @@ fn ternary(
 }
 
 // An instance call.
-#[cycle(arg_args_assemble_expr_closure_emit_call_exprs_field_instance_node_ternary)]
+#[cycle(exprs)]
 fn instance(
     s: &[u8],
     at: usize,
@@ -220,7 +220,7 @@ fn instance(
 }
 
 // A closure call.
-#[cycle(arg_args_assemble_expr_closure_emit_call_exprs_field_instance_node_ternary)]
+#[cycle(exprs)]
 fn closure(
     s: &[u8],
     at: usize,
@@ -257,7 +257,7 @@ fn closure(
 }
 
 // A function, whose fields begin at `at`, and its arguments, which end the node at `site`: emit_call.
-#[cycle(arg_args_assemble_expr_closure_emit_call_exprs_field_instance_node_ternary)]
+#[cycle(exprs)]
 fn emit_call(
     s: &[u8],
     at: usize,
@@ -285,7 +285,7 @@ fn emit_call(
 }
 
 // Arguments with the marks of their parameters, then a Nop for each that is absent.
-#[cycle(arg_args_assemble_expr_closure_emit_call_exprs_field_instance_node_ternary)]
+#[cycle(exprs)]
 fn args(
     s: &[u8],
     at: usize,
@@ -318,7 +318,7 @@ fn args(
 }
 
 // An argument, behind a Skip where its parameter is short-circuit.
-#[cycle(arg_args_assemble_expr_closure_emit_call_exprs_field_instance_node_ternary)]
+#[cycle(exprs)]
 fn arg(
     s: &[u8],
     at: usize,
@@ -347,7 +347,7 @@ fn arg(
 
 // Expressions one after the other up to `end`. One that makes no label is its record and then its parts, which stand where the run
 // goes on: no call goes down to them.
-#[cycle(arg_args_assemble_expr_closure_emit_call_exprs_field_instance_node_ternary)]
+#[cycle(exprs)]
 fn exprs(
     s: &[u8],
     at: usize,
@@ -378,7 +378,7 @@ fn exprs(
 }
 
 // Statements one after the other up to `end`. A block is its statements, which stand where the run goes on.
-#[cycle(arm_arms_assemble_bodies_branches_case_cases_default_inside_mid_repeat_stmts_switch)]
+#[cycle(stmts)]
 pub fn stmts(
     s: &[u8],
     at: usize,
@@ -412,7 +412,7 @@ pub fn stmts(
 }
 
 // While.
-#[cycle(arm_arms_assemble_bodies_branches_case_cases_default_inside_mid_repeat_stmts_switch)]
+#[cycle(stmts)]
 fn repeat(
     s: &[u8],
     at: usize,
@@ -446,7 +446,7 @@ fn repeat(
 }
 
 // Branches.
-#[cycle(arm_arms_assemble_bodies_branches_case_cases_default_inside_mid_repeat_stmts_switch)]
+#[cycle(stmts)]
 fn branches(
     s: &[u8],
     at: usize,
@@ -476,7 +476,7 @@ fn branches(
 }
 
 // The branches of the node at `site`; `first` is the label of the first.
-#[cycle(arm_arms_assemble_bodies_branches_case_cases_default_inside_mid_repeat_stmts_switch)]
+#[cycle(stmts)]
 fn arms(
     s: &[u8],
     at: usize,
@@ -508,7 +508,7 @@ fn arms(
 }
 
 // A branch of the node at `site`.
-#[cycle(arm_arms_assemble_bodies_branches_case_cases_default_inside_mid_repeat_stmts_switch)]
+#[cycle(stmts)]
 fn arm(
     s: &[u8],
     at: usize,
@@ -536,7 +536,7 @@ fn arm(
 }
 
 // The default block, where its mark is 1.
-#[cycle(arm_arms_assemble_bodies_branches_case_cases_default_inside_mid_repeat_stmts_switch)]
+#[cycle(stmts)]
 fn default(
     s: &[u8],
     at: usize,
@@ -559,7 +559,7 @@ fn default(
 }
 
 // Switch.
-#[cycle(arm_arms_assemble_bodies_branches_case_cases_default_inside_mid_repeat_stmts_switch)]
+#[cycle(stmts)]
 fn switch(
     s: &[u8],
     at: usize,
@@ -592,7 +592,7 @@ fn switch(
 }
 
 // What stands in a switch after its value, from `at` on: default_index, the default's mark, the cases, the default.
-#[cycle(arm_arms_assemble_bodies_branches_case_cases_default_inside_mid_repeat_stmts_switch)]
+#[cycle(stmts)]
 fn inside(
     s: &[u8],
     at: usize,
@@ -625,7 +625,7 @@ fn inside(
 }
 
 // Cases in groups: each block after its matcher.
-#[cycle(arm_arms_assemble_bodies_branches_case_cases_default_inside_mid_repeat_stmts_switch)]
+#[cycle(stmts)]
 fn cases(
     s: &[u8],
     at: usize,
@@ -665,7 +665,7 @@ fn cases(
 }
 
 // A case of the node at `site`; its block, where it ends its group.
-#[cycle(arm_arms_assemble_bodies_branches_case_cases_default_inside_mid_repeat_stmts_switch)]
+#[cycle(stmts)]
 fn case(
     s: &[u8],
     at: usize,
@@ -696,7 +696,7 @@ fn case(
 }
 
 // The same where the default stands before one of the n cases: all matchers, then all blocks.
-#[cycle(arm_arms_assemble_bodies_branches_case_cases_default_inside_mid_repeat_stmts_switch)]
+#[cycle(stmts)]
 fn mid(
     s: &[u8],
     at: usize,
@@ -763,7 +763,7 @@ fn matchers(
 }
 
 // The blocks of all cases, the default before case `index`.
-#[cycle(arm_arms_assemble_bodies_branches_case_cases_default_inside_mid_repeat_stmts_switch)]
+#[cycle(stmts)]
 fn bodies(
     s: &[u8],
     at: usize,

@@ -1,0 +1,7 @@
+use Rattle.std.proofs.Common.{refl}
+use Rattle.steps.specs.Walked.{span_of, target_of}
+use Rattle.steps.proofs.spans.in_switch.Goals as goal
+
+pub returns : goal.returns
+unfolding span_of target_of
+returns c = refl

@@ -1,0 +1,48 @@
+use Prim.Native.Nat.{◌+◌, ◌-◌, ◌*◌}
+use Rattle.definitions.specs.Read.{parse_expr}
+use Rattle.ir.specs.declared.Class.TheVariants.{Expression}
+use Rattle.steps.proofs.RunLaws.{ArgsRest, Rest}
+use Rattle.steps.specs.Walked.{args_code, fill_code, lower_all, marks_from, span_of}
+use Rattle.walk.proofs.nodes.+exprs.Given as goal
+
+abbrev pub decreases-arg : goal.decreases-arg
+decreases-arg l = 20 * l.depth + 4
+
+abbrev pub decreases-args : goal.decreases-args
+decreases-args l = 20 * l.depth + 5
+
+abbrev pub decreases-assemble_expr : goal.decreases-assemble_expr
+decreases-assemble_expr l = 20 * l.depth + 1
+
+abbrev pub decreases-closure : goal.decreases-closure
+decreases-closure l = 20 * l.depth + 0
+
+abbrev pub decreases-emit_call : goal.decreases-emit_call
+decreases-emit_call l = 20 * l.depth + 6
+
+abbrev pub decreases-exprs : goal.decreases-exprs
+decreases-exprs l = 20 * l.depth + 2
+
+abbrev pub decreases-field : goal.decreases-field
+decreases-field l = 20 * l.depth + 0
+
+abbrev pub decreases-instance : goal.decreases-instance
+decreases-instance l = 20 * l.depth + 0
+
+abbrev pub decreases-node : goal.decreases-node
+decreases-node l = 20 * l.depth + 3
+
+abbrev pub decreases-ternary : goal.decreases-ternary
+decreases-ternary l = 20 * l.depth + 0
+
+abbrev pub invariant-args-loop-i : goal.invariant-args-loop-i
+invariant-args-loop-i l = ArgsRest l.depth l.s l.end l.site (args_code l.depth l.s l.end l.at l.site (marks_from l.s l.params l.n)) l.initial.v l.initial.out l.initial.marks l.p l.left l.i l.v l.out l.marks
+
+abbrev pub decreases-args-loop-i : goal.decreases-args-loop-i
+decreases-args-loop-i l = l.end - l.i
+
+abbrev pub invariant-exprs-loop-item : goal.invariant-exprs-loop-item
+invariant-exprs-loop-item l = Rest (parse_expr l.depth l.s) (lower_all Expression (span_of l.span)) (fill_code Expression l.depth l.s l.end l.at (span_of l.span)) l.end l.initial.v l.initial.out l.initial.marks l.item l.v l.out l.marks
+
+abbrev pub decreases-exprs-loop-item : goal.decreases-exprs-loop-item
+decreases-exprs-loop-item l = l.end - l.item

@@ -1,0 +1,74 @@
+use Prim.Native.Nat.{◌*◌, ◌+◌, ◌-◌}
+use Rattle.walk.proofs.CaseLaws.{ArmsRest, CasesRest}
+use Rattle.walk.proofs.MidLaws.{BodiesRest}
+use Rattle.definitions.specs.Lower.{lower_bodies, lower_branches, lower_cases, lower_default}
+use Rattle.definitions.specs.Read.{parse_stmt}
+use Rattle.definitions.specs.Tree.{branches_of, cases_of}
+use Rattle.ir.specs.declared.Class.TheVariants.{Statement}
+use Rattle.steps.proofs.RunLaws.{Rest}
+use Rattle.steps.specs.Walked.{arms_from, code_of, default_of, fill_code, lower_all, span_of}
+use mathlib.Core.Option.{none}
+use Rattle.walk.proofs.nodes.+stmts.Given as goal
+
+abbrev pub decreases-arm : goal.decreases-arm
+decreases-arm l = 20 * l.depth + 5
+
+abbrev pub decreases-arms : goal.decreases-arms
+decreases-arms l = 20 * l.depth + 6
+
+abbrev pub decreases-assemble : goal.decreases-assemble
+decreases-assemble l = 20 * l.depth + 2
+
+abbrev pub decreases-bodies : goal.decreases-bodies
+decreases-bodies l = 20 * l.depth + 6
+
+abbrev pub decreases-branches : goal.decreases-branches
+decreases-branches l = 20 * l.depth + 0
+
+abbrev pub decreases-case : goal.decreases-case
+decreases-case l = 20 * l.depth + 5
+
+abbrev pub decreases-cases : goal.decreases-cases
+decreases-cases l = 20 * l.depth + 6
+
+abbrev pub decreases-default : goal.decreases-default
+decreases-default l = 20 * l.depth + 5
+
+abbrev pub decreases-inside : goal.decreases-inside
+decreases-inside l = 20 * l.depth + 8
+
+abbrev pub decreases-mid : goal.decreases-mid
+decreases-mid l = 20 * l.depth + 7
+
+abbrev pub decreases-repeat : goal.decreases-repeat
+decreases-repeat l = 20 * l.depth + 0
+
+abbrev pub decreases-stmts : goal.decreases-stmts
+decreases-stmts l = 20 * l.depth + 4
+
+abbrev pub decreases-switch : goal.decreases-switch
+decreases-switch l = 20 * l.depth + 0
+
+abbrev pub invariant-arms-loop-i : goal.invariant-arms-loop-i
+invariant-arms-loop-i l = ArmsRest l.depth l.s l.end l.site l.exit (span_of l.span) (code_of (λ xs. lower_branches (branches_of xs) l.site l.first l.exit (span_of l.span)) (arms_from l.depth l.s l.end l.at)) l.initial.v l.initial.out l.initial.marks l.next l.i l.v l.out l.marks
+
+abbrev pub decreases-arms-loop-i : goal.decreases-arms-loop-i
+decreases-arms-loop-i l = l.end - l.i
+
+abbrev pub invariant-bodies-loop-i : goal.invariant-bodies-loop-i
+invariant-bodies-loop-i l = BodiesRest l.depth l.s l.end l.stop l.index l.label (l.label + l.n) (span_of l.span) (code_of (λ cs. lower_bodies (cases_of cs) l.index l.label (l.label + l.n) (lower_default (default_of 1 l.depth l.s l.stop l.end) (span_of l.span)) (span_of l.span)) (arms_from l.depth l.s l.end l.at)) l.initial.v l.initial.out l.initial.marks l.k l.i l.v l.out l.marks
+
+abbrev pub decreases-bodies-loop-i : goal.decreases-bodies-loop-i
+decreases-bodies-loop-i l = l.end - l.i
+
+abbrev pub invariant-cases-loop-i : goal.invariant-cases-loop-i
+invariant-cases-loop-i l = CasesRest l.depth l.s l.end l.site (span_of l.span) (code_of (λ xs. lower_cases (cases_of xs) l.site l.first none (span_of l.span)) (arms_from l.depth l.s l.end l.at)) l.initial.v l.initial.out l.initial.marks l.next l.group l.i l.v l.out l.marks
+
+abbrev pub decreases-cases-loop-i : goal.decreases-cases-loop-i
+decreases-cases-loop-i l = l.end - l.i
+
+abbrev pub invariant-stmts-loop-here : goal.invariant-stmts-loop-here
+invariant-stmts-loop-here l = Rest (parse_stmt l.depth l.s) (lower_all Statement (span_of l.span)) (fill_code Statement l.depth l.s l.end l.at (span_of l.span)) l.end l.initial.v l.initial.out l.initial.marks l.here l.v l.out l.marks
+
+abbrev pub decreases-stmts-loop-here : goal.decreases-stmts-loop-here
+decreases-stmts-loop-here l = l.end - l.here

@@ -1,0 +1,32 @@
+use Rattle.walk.proofs.CaseLaws.{heads_start, heads_arm, heads_next, heads_end}
+use mathlib.Core.Path.{refl}
+use Prim.Native.Nat.{◌+◌, ◌<◌}
+use native.Mathlib.Omega.{arith}
+use Rattle.walk.proofs.nodes.matchers.Goals as goal
+
+pub loop-i-init : goal.loop-i-init
+loop-i-init c = heads_start _ _ _ _ _ _ _ _ _ _ c.requires.at_le_end.0 c.requires.at_le_end.2 c.requires.accepted
+
+pub end_of-second-requires : goal.end_of-second-requires
+end_of-second-requires c = let k = heads_arm c.loop-i.invariant c.loop-i-test.true _ _ refl refl in omega (arith, k.one, k.fits, k.tail, c.requires.at_le_end)
+
+pub node-v-requires : goal.node-v-requires
+node-v-requires c = let k = heads_arm c.loop-i.invariant c.loop-i-test.true _ _ c.end_of-second.ensures refl in record { accepted = k.one.reads; end_in_bounds = c.requires.at_le_end.1 }
+
+pub overflow_add-body : goal.overflow_add-body
+overflow_add-body c = let z : c.loop-i.body + 1 < 18446744073709551616 = omega (arith, c.loop-i.invariant.few, c.loop-i-test.true, c.well_formed.0, c.requires.at_le_end) in record { fits = z }
+
+pub end_of-i-requires : goal.end_of-i-requires
+end_of-i-requires c = let k = heads_arm c.loop-i.invariant c.loop-i-test.true _ _ c.end_of-second.ensures refl in omega (arith, k.fits, k.tail, c.requires.at_le_end)
+
+pub loop-i-preserved : goal.loop-i-preserved
+loop-i-preserved c = heads_next c.loop-i.invariant c.loop-i-test.true _ _ _ _ _ _ _ _ _ _ _ _ c.end_of-second.ensures c.end_of-i.ensures c.mark_label-v.ensures c.labels_of-next.ensures.0 c.new_label-v.ensures c.jumps-v.ensures c.node-v.ensures
+
+pub returns : goal.returns
+returns c = heads_end c.loop-i.invariant c.loop-i-test.false c.mark_label.ensures
+
+pub shape_of-out : goal.shape_of-out
+shape_of-out c = c.loop-i.invariant.rest.goes.outs
+
+pub shape_of-marks : goal.shape_of-marks
+shape_of-marks c = (returns c).marked
