@@ -10,7 +10,6 @@ use lib.Seq.{length-take-le, drop_at}
 use borrow.Author.Tests.{le-leb, lt-leb, leb-true}
 use borrow.Rule.Slice.PartMut.{put_mid, put_same}
 use Rattle.definitions.specs.Answer.{Answer, ok, refused, Result, made, refusal, onward, checked}
-use Rattle.definitions.specs.Bytes.{bytes}
 use Rattle.definitions.specs.Instr.{Instr, record_length}
 use Rattle.definitions.specs.Tree.{Script}
 use Rattle.definitions.specs.Read.{filling, parse_stmt, parse_unit}
@@ -28,10 +27,9 @@ use Rattle.ir.specs.declared.ReadUnit.TheVariants.{Reads, Fails}
 use Rattle.ir.specs.declared.Class.TheVariants.{Statement}
 use Rattle.ir.proofs.UnitPlaces.{unit_at}
 use Rattle.steps.specs.Running.{Cells, run}
-use Rattle.steps.specs.Walked.{Accepted, code_of, fill_code, ran, target_of, span_of, Did}
+use Rattle.steps.specs.Walked.{Accepted, fill_code, ran, target_of, span_of, Did}
 use Rattle.scan.specs.Scanned.{Fits}
 use Rattle.assemble.specs.Whole.{unit_code, zeros, Lowers, answer, measuring}
-use Rattle.assemble.specs.declared
 use Rattle.steps.specs.declared.Counters.{Counters}
 use Rattle.steps.specs.declared.Target.TheVariants.{Nowhere}
 use Rattle.steps.specs.declared.Walk.{Walk}

@@ -8,7 +8,6 @@ use lib.Dec.{ltb}
 use lib.ListN.{length, set, take, drop, length-append, length-set, length-drop, take-append-drop}
 use lib.Seq.{length-take-le, take_at, drop-append-add, drop-drop, set-append_left, set-append_seam}
 use Rattle.steps.proofs.StepLaws.{set_out}
-use Rattle.definitions.specs.Bytes.{bytes}
 use borrow.Author.Tests.{le-leb, ltb-true, ltb-false}
 use Rattle.definitions.specs.Instr.{Instr, size, record_length, record_bytes}
 use Rattle.definitions.specs.Listing.{front_length, listing_length, records_bytes, record_limit}

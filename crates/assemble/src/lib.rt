@@ -1,4 +1,6 @@
 // Lowering: from the bytes of a unit to its labelled listing and its label table, by the walk of `walk`; and what a unit takes.
+#![tactic(auto)]
+
 ghost use Rattle.std.specs.Prelude.{◌≡◌, true, [], length};
 ghost use Rattle.definitions.specs.Read.{parse_unit};
 ghost use Rattle.definitions.specs.Stage.{lower_into, lower_to, measure};
@@ -15,7 +17,7 @@ use steps::{BlockSpan, Counters, Target, Walk};
 use walk::nodes::stmts;
 
 // A unit's totals, or why it is not lowered.
-#[derive(Drop)]
+#[derive(Clone, Copy)]
 pub enum Lowered {
     Done(Counters),
     Refused(Refusal),
@@ -110,7 +112,7 @@ fn lower_read(s: &[u8], out: &mut [u8], marks: &mut [u32]) -> Lowered
 
 // Whether one scan of a unit says that it is lowered into buffers of so many bytes and words. False says nothing.
 fn fits_in(unit: &[u8], bytes: usize, words: usize) -> bool
-    ensures { «r» ≡ true → Lowers unit.now bytes words }
+    ensures { result ≡ true → Lowers unit.now bytes words }
 {
     if bytes < listings::FRONT {
         return false;
