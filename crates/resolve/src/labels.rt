@@ -18,14 +18,14 @@ use ir::Refusal;
 const UNMARKED: u32 = 4294967295;
 
 // The sixteen bits of a field, or why there are none.
-#[derive(Drop)]
+#[derive(Clone, Copy)]
 pub enum Field {
     Is(u16),
     Not(Refusal),
 }
 
 // What a record's first and second hold when they have been mapped, or why there is no such record.
-#[derive(Drop)]
+#[derive(Clone, Copy)]
 pub enum Mapped {
     Is { first: u16, second: u16 },
     Not(Refusal),

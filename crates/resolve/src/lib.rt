@@ -1,4 +1,6 @@
 // The resolver: a labelled listing and its label table to the listing with distances in place of the labels.
+#![tactic(auto)]
+
 ghost use Rattle.std.specs.Prelude.{◌≡◌, ◌≤◌, length};
 ghost use Rattle.definitions.specs.Answer.{made};
 ghost use Rattle.definitions.specs.Listing.{listing_length, front_length, records_from, read_listing};
@@ -17,7 +19,7 @@ use ir::Refusal;
 use labels::{Mapped, map_labels, put_distances};
 
 // How many records the resolved listing has, or why there is none.
-#[derive(Drop)]
+#[derive(Clone, Copy)]
 pub enum Resolved {
     Done { count: usize },
     Refused(Refusal),

@@ -1,12 +1,12 @@
 -- A field and what is taken off it or put on it: from the number with 32,768 on it to the definition's signed one. Assumes nothing.
 use Prim.Native.Nat.{ℕ, zero, suc, ◌+◌, ◌-◌, ◌≤◌, ◌<◌}
 use mathlib.Core.Path.{◌≡◌, refl, sym, ap, ◌∙◌}
-use mathlib.Core.Bool.{Bool, true, false, cond, not}
+use mathlib.Core.Bool.{Bool, true, false, cond}
 use mathlib.Core.List.{List, [], ◌∷◌}
 use native.Mathlib.Omega.{arith}
 use lib.Dec.{ltb}
 use lib.IntN.{ℤ, pos, negsuc, sub_ℕ}
-use borrow.Author.Tests.{ltb-true, ltb-false, lt-ltb, le-ltb, ne_eqb, not-true, not-false}
+use borrow.Author.Tests.{ltb-true, ltb-false, lt-ltb, le-ltb, ne_eqb}
 use Rattle.definitions.specs.Answer.{made, refusal, checked}
 use Rattle.definitions.specs.Resolve.{in_range, word, signed}
 use Rattle.definitions.specs.Stored.{Way, there, back, Less, less_in, move_field}
@@ -136,19 +136,19 @@ less_none (l ∷ ls) t h = rw (ne_eqb l.tag t (λ e. h.0 (sym e))) (less_none ls
 
 -- 6. A field, by whether it carries a label and by the way
 
-pub field_same : (way : way.Way) (b : Bool) (off k x w : ℕ) → not b ≡ true → made w ≡ move_field (way_is way) b off k x w
+pub field_same : (way : way.Way) (b : Bool) (off k x w : ℕ) → b ≡ false → made w ≡ move_field (way_is way) b off k x w
 unfolding move_field
-field_same way b off k x w h = rw (not-true b h)
+field_same way b off k x w h = rw h
 
-module _ (way : way.Way) (b : Bool) (off k x w n : ℕ) (h : w < 65536) (c : not b ≡ false) (e : n ≡ biased w) where
+module _ (way : way.Way) (b : Bool) (off k x w n : ℕ) (h : w < 65536) (c : b ≡ true) (e : n ≡ biased w) where
   pub taken_is : way ≡ There → off ≤ n → (m : ℕ) → m ≡ biased (n - off) → made m ≡ move_field (way_is way) b off k x w
-  taken_is d l m q = rw (d, not-false b c, q, e) (taken w off k x (omega arith) (rw e at l))
+  taken_is d l m q = rw (d, c, q, e) (taken w off k x (omega arith) (rw e at l))
 
   pub taken_no : way ≡ There → n < off → off ≤ 11 → refusal 33 k x ≡ move_field (way_is way) b off k x w
-  taken_no d l f = rw (d, not-false b c) (taken_not w off k x (omega arith) (rw e at l) f)
+  taken_no d l f = rw (d, c) (taken_not w off k x (omega arith) (rw e at l) f)
 
   pub put_is : way ≡ Back → n ≤ 65535 - off → off ≤ 11 → (m : ℕ) → m ≡ biased (n + off) → made m ≡ move_field (way_is way) b off k x w
-  put_is d l f m q = rw (d, not-false b c, q, e) (put w off k x (omega arith) (omega (arith, e)))
+  put_is d l f m q = rw (d, c, q, e) (put w off k x (omega arith) (omega (arith, e)))
 
   pub put_no : way ≡ Back → 65535 - off < n → off ≤ 11 → refusal 33 k x ≡ move_field (way_is way) b off k x w
-  put_no d l f = rw (d, not-false b c) (put_not w off k x (omega arith) (omega (arith, e)))
+  put_no d l f = rw (d, c) (put_not w off k x (omega arith) (omega (arith, e)))

@@ -16,7 +16,7 @@ use ir::Refusal;
 use resolve::labels::{Field, Mapped};
 
 // What is taken off a record's first and second.
-#[derive(Drop)]
+#[derive(Clone, Copy)]
 struct Less {
     first: usize,
     second: usize,

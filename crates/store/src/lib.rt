@@ -1,4 +1,6 @@
 // What the loader stores of a resolved listing, and the way back: each distance with something taken off it, or put on it again.
+#![tactic(auto)]
+
 ghost use Rattle.std.specs.Prelude.{◌≡◌, ◌≤◌, length};
 ghost use Rattle.definitions.specs.Answer.{made};
 ghost use Rattle.definitions.specs.Listing.{listing_length, front_length, records_from, read_listing};
@@ -19,7 +21,7 @@ use resolve::labels::Mapped;
 use resolve::{Resolved, copy_listing};
 
 // Which way a field is moved: something is taken off its number, or put on it again.
-#[derive(Drop)]
+#[derive(Clone, Copy)]
 enum Way {
     There,
     Back,
