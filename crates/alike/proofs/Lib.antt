@@ -7,3 +7,4 @@ mod Units
 mod Codes
 mod Likes
 pub mod Theorem
+pub mod Stripping

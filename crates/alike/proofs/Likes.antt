@@ -1,23 +1,23 @@
 -- What a script lowers to and what it lowers to when it is blanked are alike, rule by rule.
-use Prim.Native.Nat.{ℕ, zero, suc, ◌+◌, ◌-◌, ◌*◌}
+use Prim.Native.Nat.{ℕ, zero, suc, ◌+◌}
 use mathlib.Core.Path.{◌≡◌, refl, sym, ap, ◌∙◌}
-use mathlib.Core.Bool.{Bool, true, false, cond, ◌&&◌, ◌||◌, not}
+use mathlib.Core.Bool.{Bool, true, false, cond, ◌||◌}
 use mathlib.Core.List.{List, [], ◌∷◌}
 use mathlib.Core.Option.{Option, none, some}
 use native.Mathlib.Omega.{arith}
 use lib.Dec.{ltb, eqb}
 use lib.ListN.{get_or}
 use borrow.Author.Tests.{le-ltb}
-use Rattle.definitions.specs.Tag.{Nop, I32Zero, I32One, I32Const, FalseConst, TrueConst, sizes, tag_size, row_of, const_tags, const_tag, default_tags}
-use Rattle.definitions.specs.Instr.{Instr, size, plain}
+use Rattle.definitions.specs.Tag.{Nop, I32Zero, I32One, I32Const, FalseConst, TrueConst, sizes, tag_size, const_tags, const_tag, default_tags}
+use Rattle.definitions.specs.Instr.{size, plain}
 use Rattle.definitions.specs.Tree.{Callee, Expr, Exprs, Stmt, Block, Branches, Cases, Default, Script, nop, const, null, new_instance, construct, assign, field, index, conditional, dyn_cast, local, intrinsic, free_call, static_call, instance_call, closure_call, enil, econs, expr, block, while, branches, switch, init_array, init_default, break, continue, return, return_nothing, bnil, bcons, brnil, brcons, cnil, ccons, absent, present, length_exprs, length_cases, is_present, place_of}
-use Rattle.definitions.specs.Code.{Code, emit, act, ◌then◌, label, many}
+use Rattle.definitions.specs.Code.{Code, emit, act, ◌then◌, many}
 use Rattle.definitions.specs.Code.{emits as emissions}
-use Rattle.definitions.specs.Lower.{instr, is_prvalue, one_prvalue, is_flagged, flags_of, require_flags, lower_field, lower_arg, nops, emit_invoke, emit_call, lower_expr, lower_exprs, lower_args, lower_elements, lower_array, primitive_default, default_instrs, lower_return, BlockSpan, in_loop, in_switch, mid_default, ends_group, in_group, lower_stmt, lower_matchers, lower_bodies, lower_blocks, lower_cases, lower_last, lower_branches, lower_default, lower_block, code_of}
+use Rattle.definitions.specs.Lower.{instr, is_prvalue, one_prvalue, is_flagged, require_flags, lower_field, lower_arg, emit_invoke, emit_call, lower_expr, lower_exprs, lower_args, lower_elements, lower_array, primitive_default, default_instrs, lower_return, BlockSpan, in_loop, in_switch, mid_default, ends_group, in_group, lower_stmt, lower_matchers, lower_bodies, lower_blocks, lower_cases, lower_last, lower_branches, lower_default, lower_block, code_of}
 use Rattle.definitions.specs.Strip.{least}
 use Rattle.laws.proofs.Picked.{const_plain}
 use Rattle.alike.specs.Blank.{blank_callee, blank_expr, blank_exprs, blank_stmt, blank_block, blank_branches, blank_cases, blank_default, blank_script}
-use Rattle.alike.proofs.Codes.{Same, Like, nothing, same, emits, seq, labels, self}
+use Rattle.alike.proofs.Codes.{Like, nothing, same, emits, seq, labels, self}
 
 infixr 20 ◌&◌
 abbrev ◌&◌ : {p q p' q' : Code} → Like p q → Like p' q' → Like (p then p') (q then q')

@@ -2,10 +2,9 @@
 use Prim.Native.Nat.{ℕ, suc, ◌+◌}
 use mathlib.Core.Path.{◌≡◌, refl, sym, ap, ◌∙◌}
 use mathlib.Core.List.{List, [], ◌∷◌}
-use native.Mathlib.Omega.{arith}
 use lib.Dec.{leb}
 use lib.ListN.{length}
-use Rattle.definitions.specs.Answer.{Answer, ok, refused, Result, made, refusal, onward, checked}
+use Rattle.definitions.specs.Answer.{Answer, ok, refused, Result, made, refusal, onward}
 use Rattle.definitions.specs.Tag.{row_of}
 use Rattle.definitions.specs.Tree.{Script}
 use Rattle.definitions.specs.Read.{parse_unit}
@@ -142,16 +141,3 @@ alike s t e =
           ∙ sym (ap resolving (delivers_stage t o' m' y total' k' n' out' marks' d' w' space h'));
       stages = through (λ s. resolving (stage s)) (λ s. resolving_same (stage s) (stage (strip s)) (stage_agree s)) s t e;
     }
-
--- 5. From it
-
--- stripping twice is stripping once
-pub strip_twice : (s : List ℕ) → strip (strip s) ≡ strip s
-strip_twice s = (stripped s).twice
-
-pub strip_length : (s : List ℕ) → length (strip s) ≡ length s
-strip_length s = (stripped s).long
-
--- and stripping changes nothing of this
-pub strip_alike : (s : List ℕ) → Alike s (strip s)
-strip_alike s = alike s (strip s) (sym (strip_twice s))

@@ -1,5 +1,5 @@
 -- Reading and stripping in step: at a place, a parser of a unit, the same parser of any bytes that stand as stripping leaves them, and the step that strips.
-use Prim.Native.Nat.{ℕ, zero, suc, ◌+◌, ◌*◌, ◌-◌, ◌^◌, ◌≤◌, ◌<◌}
+use Prim.Native.Nat.{ℕ, zero, suc, ◌+◌, ◌-◌, ◌^◌, ◌≤◌, ◌<◌}
 use mathlib.Core.Path.{◌≡◌, refl, ap, sym, ◌∙◌}
 use mathlib.Core.Bool.{Bool, true, false, cond, not, ◌||◌}
 use mathlib.Core.List.{List, [], ◌∷◌, ◌++◌, append_assoc, map}
@@ -8,12 +8,12 @@ use native.Mathlib.Nat.{add-zero, zero-add, pow-zero, pow-suc}
 use lib.Dec.{leb, ltb, eqb}
 use lib.ListN.{length, get_or, take, drop, length-append, length-drop}
 use lib.Seq.{take_at, drop_at, drop-drop, get_or-drop, length-take-le, get_or-take}
-use borrow.Author.Tests.{leb-true, ltb-true, ltb-false, eqb-true}
+use borrow.Author.Tests.{leb-true, ltb-false, eqb-true}
 use Rattle.definitions.specs.Answer.{Answer, ok, refused, bind}
 use Rattle.definitions.specs.Bytes.{number, bytes}
 use Rattle.definitions.specs.Tag.{const_widths}
 use Rattle.definitions.specs.Read.{Parser, ◌>>=◌, give, unsigned, byte_below, mark_bytes, payload, room, span, items, filling, run, ended}
-use Rattle.definitions.specs.Strip.{Strip, stop, nothing, only, ◌and◌, keep, blank, keep_below, keep_marks, least, blank_payload, keep_length, strip_items, strip_run}
+use Rattle.definitions.specs.Strip.{Strip, nothing, only, ◌and◌, keep, blank, keep_below, keep_marks, least, blank_payload, keep_length, strip_items, strip_run}
 use Rattle.instr.proofs.NumberLaws.{length_bytes, read_back}
 use Rattle.ir.proofs.Inversion.{bool_width}
 
@@ -315,9 +315,9 @@ pub marks : {A : Type 0} {s : List ℕ} {at : ℕ} {f : A → A} {k : List ℕ �
     → ((ms : List ℕ) → length ms ≡ n → (m : ℕ) → Track s m (k ms) (λ t. k' t ms) f h h')
     → Track s at (mark_bytes s nd end n >>= k) (λ t. mark_bytes t nd end n >>= k' t) f (keep_marks s end n h) (λ t. keep_marks t end n (h' t))
 unfolding mark_bytes keep_marks
-marks {at} nd end near zero i = given [] [] _ _ (i [] refl at)
-marks nd end near (suc n) i =
-    inside _ _ _ _ _ _ (below nd end near 2 (λ m. inside _ _ _ _ _ _ (marks nd end near n (λ ms l x. given (m ∷ ms) (m ∷ ms) _ _ (i (m ∷ ms) (ap suc l) x)))))
+marks {at = at} nd end near zero i = given [] [] _ _ (i [] refl at)
+marks {at = at} nd end near (suc n) i =
+    inside _ _ _ _ _ _ (below nd end near 2 (λ m. inside _ _ _ _ _ _ (marks {at = at + 1} nd end near n (λ ms l x. given (m ∷ ms) (m ∷ ms) _ _ (i (m ∷ ms) (ap suc l) x)))))
 
 -- 3. Lengths, runs, and the end of a node
 

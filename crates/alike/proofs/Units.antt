@@ -1,20 +1,19 @@
 -- A unit and its stripped copy: as long, read to the same tree but for what is blanked or refused alike, and stripped already.
-use Prim.Native.Nat.{ℕ, ◌+◌, ◌*◌, ◌≤◌, ◌<◌}
+use Prim.Native.Nat.{ℕ, ◌+◌, ◌≤◌, ◌<◌}
 use mathlib.Core.Path.{◌≡◌, refl, sym, ap, ◌∙◌}
-use mathlib.Core.Bool.{Bool, true, false, ◌&&◌, and-eq-true_iff}
+use mathlib.Core.Bool.{Bool, true, false, and-eq-true_iff}
 use mathlib.Core.List.{List, [], ◌∷◌, ◌++◌, append-nil}
 use native.Mathlib.Omega.{arith}
-use lib.Dec.{leb, ltb, eqb}
-use lib.ListN.{length, get_or, take, drop, length-append, length-drop, take-append-drop}
+use lib.ListN.{length, get_or, take, drop, length-append, length-drop}
 use lib.Seq.{take_at, drop_at, length-take-le, get_or-take}
 use borrow.Author.Tests.{leb-true}
 use Rattle.definitions.specs.Answer.{Answer, ok, refused}
 use Rattle.definitions.specs.Bytes.{number}
 use Rattle.definitions.specs.Tree.{Block, Script, block_of}
-use Rattle.definitions.specs.Read.{Parser, ◌>>=◌, run, ended, parse_stmt, depth_limit, unit_limit, front_good, parse_unit}
+use Rattle.definitions.specs.Read.{Parser, ◌>>=◌, run, ended, parse_stmt, depth_limit, front_good, parse_unit}
 use Rattle.definitions.specs.Strip.{Strip, strip_parts, strip_expr, strip_stmt, strip, block}
 use Rattle.ir.proofs.Inversion.{stmt_at, run_ok, ended_ok}
-use Rattle.alike.specs.Blank.{blank_script, blank_answer, blank_block}
+use Rattle.alike.specs.Blank.{blank_script, blank_answer}
 use Rattle.alike.proofs.Track.{Track, passes, stops, closes, runs}
 use Rattle.alike.proofs.Stmts.{blank_block_law, stmt}
 

@@ -1,5 +1,4 @@
 -- The tree of a stripped unit: every pool index and line is 0, every constant the least of its class.
-use Rattle.std.specs.Prelude.{ℕ}
 use Rattle.definitions.specs.Answer.{Answer, ok, refused}
 use Rattle.definitions.specs.Tree.{Callee, Expr, Exprs, Stmt, Block, Branches, Cases, Default, Script, nop, const, null, new_instance, construct, assign, field, index, conditional, dyn_cast, local, intrinsic, free_call, static_call, instance_call, closure_call, enil, econs, expr, block, while, branches, switch, init_array, init_default, break, continue, return, return_nothing, bnil, bcons, brnil, brcons, cnil, ccons, absent, present}
 use Rattle.definitions.specs.Strip.{least}

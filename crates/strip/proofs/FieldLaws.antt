@@ -7,7 +7,7 @@ use native.Mathlib.Omega.{arith}
 use native.Mathlib.Numerals.{sub-one}
 use lib.Dec.{leb, ltb, eqb}
 use lib.ListN.{get_or, take}
-use borrow.Author.Tests.{leb-true, leb-false, le-leb, lt-leb, lt-ltb, le-ltb, eq-eqb, ne_eqb}
+use borrow.Author.Tests.{leb-true, leb-false, le-leb, lt-leb, eq-eqb, ne_eqb}
 use Rattle.definitions.specs.Bytes.{number}
 use Rattle.definitions.specs.Tag.{const_widths}
 use Rattle.definitions.specs.Strip.{Strip, keep, blank, keep_below, keep_marks, least, blank_payload}
@@ -176,12 +176,6 @@ least_bool s at byte v r h d e = rw h (rw d at e)
 pub least_other : (byte v : ℕ) → (byte ≡ 9 → ⊥) → (byte ≡ 15 → ⊥) → 0 ≡ least byte v
 unfolding least
 least_other byte v h k = simp (ne_eqb byte 9 h, ne_eqb byte 15 k, least)
-
-pub least_in : (v : ℕ) → v < 2 → ◌≡◌ {A = ℕ} 0 (cond (ltb v 2) 0 2)
-least_in v h = rw (lt-ltb v 2 h)
-
-pub least_out : (v : ℕ) → 2 ≤ v → ◌≡◌ {A = ℕ} 2 (cond (ltb v 2) 0 2)
-least_out v h = rw (le-ltb v 2 h)
 
 abbrev pub good_payload : (byte v : ℕ) → Bool
 good_payload b v = not (eqb b 15) || ltb v 2

@@ -1,21 +1,18 @@
 -- One pass over a field: what is in the buffer then is what the step of the definition says. Assumes nothing.
-use Prim.Native.Nat.{ℕ, ◌+◌, ◌-◌, ◌≤◌}
+use Prim.Native.Nat.{ℕ, ◌+◌, ◌≤◌}
 use mathlib.Core.Path.{◌≡◌, refl, sym, ap, subst, ◌∙◌}
-use mathlib.Core.Bool.{Bool, true, false, not}
+use mathlib.Core.Bool.{Bool, true, false}
 use mathlib.Core.List.{List, ◌++◌, append_assoc}
 use native.Mathlib.Omega.{arith}
 use lib.Dec.{leb, ltb}
 use lib.ListN.{length, get_or, take, drop, length-append, take-append-drop}
 use lib.Seq.{length-take-le, take_at, drop_at, drop-drop, take-add}
-use denote.Enum.Declared.{tag_of}
 use borrow.Author.Tests.{leb-true}
 use Rattle.definitions.specs.Bytes.{number, bytes}
 use Rattle.definitions.specs.Strip.{Strip, only, keep, blank, keep_below}
-use Rattle.laws.proofs.Inversion.{impossible}
 use Rattle.instr.specs.Values.{stored}
 use Rattle.instr.proofs.NumberLaws.{length_bytes, one_byte}
 use Rattle.strip.specs.Passing.{fitting, pass_if, guarded, below_of, put_if, Copied, Did, Within, Ready}
-use Rattle.strip.specs.contracts.Pass.{the_type as pass-type}
 use Rattle.strip.specs.declared.Pass.{Pass}
 use Rattle.strip.specs.declared.Pass.TheVariants.{At, Stopped}
 
@@ -63,11 +60,6 @@ stored_copied s o at w v h c =
     record { long = stored_length o at w v l ∙ e; same = stored_drop o at w v l ∙ (further s o at w c).same }
 
 -- 2. Stops, and what goes on
-
--- the variant that holds nothing is known by its number
-pub is_stopped : (r : Pass) → tag_of pass-type r ≡ 1 → r ≡ Stopped
-is_stopped (At at n) h = impossible (cc)
-is_stopped Stopped h = refl
 
 pub stopping : (s o : List ℕ) (at : ℕ) (step : (ℕ → Strip) → Strip) → Copied s at o → ((next : ℕ → Strip) (rest : ℕ → List ℕ) → step next rest at ≡ drop at s) → Did s at o step Stopped o
 stopping s o at step c h = record { same = λ next rest. sym (ap (λ (x : List ℕ). take at o ++ x) (h next rest) ∙ stays s o at c); left = c.long }

@@ -7,10 +7,9 @@ use mathlib.Core.Option.{Option, none, some}
 use native.Mathlib.Omega.{arith}
 use native.Mathlib.Numerals.{add-one, sub-one}
 use lib.Dec.{leb, ltb, eqb}
-use lib.ListN.{length, get_or, take, drop, take-append-drop}
+use lib.ListN.{get_or, take, drop, take-append-drop}
 use lib.Seq.{drop-drop}
 use borrow.Author.Tests.{leb-true, lt-ltb, le-ltb}
-use denote.Enum.Declared.{tag_of}
 use Rattle.laws.proofs.Inversion.{impossible}
 use Rattle.definitions.specs.Bytes.{number}
 use Rattle.definitions.specs.Strip as definition
@@ -20,10 +19,8 @@ use Rattle.strip.specs.Parts.{parts_for, node_of, item_of}
 use Rattle.strip.specs.Passing.{fitting, span_of, pass_if, guarded, handed, whole, Copied, Left, Did, Within, parts_in}
 use Rattle.ir.specs.declared.Class.{Class}
 use Rattle.ir.specs.declared.Class.TheVariants.{Statement, Expression}
-use Rattle.ir.specs.contracts.Class.{the_type as class-type}
 use Rattle.ir.specs.declared.Item.{Item}
 use Rattle.ir.specs.declared.Item.TheVariants.{Node, Arm}
-use Rattle.ir.specs.contracts.Item.{the_type as item-type}
 use Rattle.strip.specs.declared.Pass.{Pass}
 use Rattle.strip.specs.declared.Pass.TheVariants.{At, Stopped}
 use Rattle.strip.proofs.Laws.{further, both, stopped, stopping, checking, guarded_within, wider, keeps_number}
@@ -174,13 +171,13 @@ module _ (s o : List ℕ) (at holder n depth : ℕ) (class : Class) where
       noded r o' z (a_node s o at holder (all_of class) (strip_expr (depth - 1) s) (strip_stmt (blocks_of class (depth - 1)) s) n first stop body m kind ps r₁ r₂ r o' c d e d' e' t p h.0)
       (wider stop stop (at + 1) holder r (omega (arith, i.from, f.room)) i.high h.1)
 
-pub a_statement : (s o : List ℕ) (at holder n depth : ℕ) (class : Class) (first stop body m kind : ℕ) (ps : List definition.Part) (r₁ r₂ r : Pass) (o' : List ℕ) → tag_of class-type class ≡ 0
+pub a_statement : (s o : List ℕ) (at holder n depth : ℕ) (class : Class) (first stop body m kind : ℕ) (ps : List definition.Part) (r₁ r₂ r : Pass) (o' : List ℕ) → class ≡ Statement
     → (depth ≡ 0 → ⊥) → Copied s at o → r₁ ≡ At first stop → r₁ ≡ span_of s holder at → r₂ ≡ At body m → r₂ ≡ fitting first 1 stop 0 → kind ≡ get_or s first 0 → ps ≡ parts_for (parts_of stmt_parts kind)
     → Did s body o (λ next. parts_in (depth - 1) (depth - 1) s stop ps 0 and next n) r o' × Within stop stop r → Noded s o at holder n depth class r o'
 a_statement s o at holder n depth Statement first stop body m kind ps r₁ r₂ r o' g z c d e d' e' t p h = node_in s o at holder n depth Statement first stop body m kind ps r₁ r₂ r o' z c d e d' e' t p h
 a_statement s o at holder n depth Expression first stop body m kind ps r₁ r₂ r o' g z c d e d' e' t p h = impossible (cc)
 
-pub an_expression : (s o : List ℕ) (at holder n depth : ℕ) (class : Class) (first stop body m kind : ℕ) (ps : List definition.Part) (r₁ r₂ r : Pass) (o' : List ℕ) → tag_of class-type class ≡ 1
+pub an_expression : (s o : List ℕ) (at holder n depth : ℕ) (class : Class) (first stop body m kind : ℕ) (ps : List definition.Part) (r₁ r₂ r : Pass) (o' : List ℕ) → class ≡ Expression
     → (depth ≡ 0 → ⊥) → Copied s at o → r₁ ≡ At first stop → r₁ ≡ span_of s holder at → r₂ ≡ At body m → r₂ ≡ fitting first 1 stop 0 → kind ≡ get_or s first 0 → ps ≡ parts_for (parts_of expr_parts kind)
     → Did s body o (λ next. parts_in (depth - 1) 0 s stop ps 0 and next n) r o' × Within stop stop r → Noded s o at holder n depth class r o'
 an_expression s o at holder n depth Statement first stop body m kind ps r₁ r₂ r o' g z c d e d' e' t p h = impossible (cc)
@@ -287,7 +284,7 @@ pub rank_small : (item : Item) → rank item ≤ 1
 rank_small (Node class) = omega arith
 rank_small Arm = omega arith
 
-pub arm_rank : (item : Item) → tag_of item-type item ≡ 1 → rank item ≡ 1
+pub arm_rank : (item : Item) → item ≡ Arm → rank item ≡ 1
 arm_rank (Node class) h = impossible (cc)
 arm_rank Arm h = refl
 
@@ -295,25 +292,25 @@ module _ (s o : List ℕ) (at end n depth blocks : ℕ) (item : Item) (r : Pass)
   abbrev Itemed : Type 0
   Itemed = Did s at o (λ next. item_of item depth blocks s end and next n) r o' × Within (at + 1) end r
 
-  pub a_statement_item : (class : Class) → item ≡ Node class → tag_of class-type class ≡ 0 → Did s at o (λ next. strip_stmt blocks s end and next n) r o' × Within (at + 1) end r → Itemed
+  pub a_statement_item : (class : Class) → item ≡ Node class → class ≡ Statement → Did s at o (λ next. strip_stmt blocks s end and next n) r o' × Within (at + 1) end r → Itemed
   a_statement_item Statement e h d = subst (λ (item : Item). Did s at o (λ next. item_of item depth blocks s end and next n) r o' × Within (at + 1) end r) (sym e) d
   a_statement_item Expression e h d = impossible (cc)
 
-  pub an_expression_item : (class : Class) → item ≡ Node class → tag_of class-type class ≡ 1 → Did s at o (λ next. strip_expr depth s end and next n) r o' × Within (at + 1) end r → Itemed
+  pub an_expression_item : (class : Class) → item ≡ Node class → class ≡ Expression → Did s at o (λ next. strip_expr depth s end and next n) r o' × Within (at + 1) end r → Itemed
   an_expression_item Statement e h d = impossible (cc)
   an_expression_item Expression e h d = subst (λ (item : Item). Did s at o (λ next. item_of item depth blocks s end and next n) r o' × Within (at + 1) end r) (sym e) d
 
-  an_arm : tag_of item-type item ≡ 1 → Did s at o (λ next. item_of Arm depth blocks s end and next n) r o' × Within (at + 1) end r → Itemed
+  an_arm : item ≡ Arm → Did s at o (λ next. item_of Arm depth blocks s end and next n) r o' × Within (at + 1) end r → Itemed
   an_arm h d = go item h
     where
-      go : (item : Item) → tag_of item-type item ≡ 1 → Did s at o (λ next. item_of item depth blocks s end and next n) r o' × Within (at + 1) end r
+      go : (item : Item) → item ≡ Arm → Did s at o (λ next. item_of item depth blocks s end and next n) r o' × Within (at + 1) end r
       go (Node class) h = impossible (cc)
       go Arm h = d
 
   abbrev block_in : (ℕ → Strip) → ℕ → Strip
   block_in next m = λ rest. strip_run s end (strip_stmt blocks s) (λ k. nothing) (next n rest)
 
-  pub arm_stopped : (r₁ : Pass) → tag_of item-type item ≡ 1 → Did s at o (λ next. strip_expr depth s end and next n) r₁ o' × Within (at + 1) end r₁ → r₁ ≡ Stopped → r ≡ Stopped → Itemed
+  pub arm_stopped : (r₁ : Pass) → item ≡ Arm → Did s at o (λ next. strip_expr depth s end and next n) r₁ o' × Within (at + 1) end r₁ → r₁ ≡ Stopped → r ≡ Stopped → Itemed
   arm_stopped r₁ h d e k =
       let d' : Did s at o (λ next. strip_expr depth s end and next n) Stopped o' = subst (λ (r : Pass). Did s at o (λ next. strip_expr depth s end and next n) r o') e d.0 in
       an_arm h (subst (λ (r : Pass). Did s at o (λ next. item_of Arm depth blocks s end and next n) r o' × Within (at + 1) end r) (sym k)
@@ -332,7 +329,7 @@ handed_left s n o Stopped h = h
 pub test_copied : (s o o' : List ℕ) (at a m : ℕ) (step : (ℕ → Strip) → Strip) (r : Pass) → r ≡ At a m → Did s at o step r o' → Copied s a o'
 test_copied s o o' at a m step r e d = (subst (λ (r : Pass). Did s at o step r o') e d).left
 
-pub arm_block : (s o o₁ o' : List ℕ) (at end n depth blocks : ℕ) (item : Item) (body m : ℕ) (r₁ r₂ r : Pass) → tag_of item-type item ≡ 1
+pub arm_block : (s o o₁ o' : List ℕ) (at end n depth blocks : ℕ) (item : Item) (body m : ℕ) (r₁ r₂ r : Pass) → item ≡ Arm
     → Did s at o (λ next. strip_expr depth s end and next n) r₁ o₁ × Within (at + 1) end r₁ → r₁ ≡ At body m
     → Did s body o₁ (strip_run s end (strip_stmt blocks s)) r₂ o' × Within (body + 1) end r₂ → r ≡ handed n r₂ → Itemed s o at end n depth blocks item r o'
 arm_block s o o₁ o' at end n depth blocks item body m r₁ r₂ r h d e b k =

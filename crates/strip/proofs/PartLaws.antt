@@ -1,7 +1,7 @@
 -- The parts of a kind, and one part after another: what the code does is what the definition's list of parts says. Assumes nothing.
 use Prim.Native.Nat.{ℕ, zero, suc, ◌+◌, ◌-◌, ◌≤◌, ◌<◌}
 use mathlib.Core.Path.{◌≡◌, refl, sym, ap, subst, ◌∙◌}
-use mathlib.Core.Bool.{Bool, true, false, ◌&&◌, true≢false}
+use mathlib.Core.Bool.{Bool, true, false, ◌&&◌}
 use mathlib.Core.List.{List, [], ◌∷◌, ◌++◌}
 use mathlib.Core.Logic.{◌⊎◌, inl, inr}
 use mathlib.Core.Option.{none}
@@ -11,10 +11,8 @@ use lib.Dec.{leb, eqb}
 use lib.ListN.{length, get_or, get_elem?, take, drop, drop_of_length-le}
 use lib.Seq.{drop-cons}
 use borrow.Author.Tests.{eqb-true}
-use denote.Enum.Declared.{tag_of}
 use Rattle.laws.proofs.Arms.{Nones, past}
 use Rattle.laws.proofs.Inversion.{impossible}
-use Rattle.definitions.specs.Bytes.{number}
 use Rattle.definitions.specs.Strip as definition
 use Rattle.definitions.specs.Strip.{Strip, only, nothing, ◌and◌, keep, keep_below, strip_run, strip_parts, strip_expr, strip_stmt, parts_of}
 use Rattle.strip.specs.Parts.{part_is, listed, parts_for, item_of}
@@ -24,7 +22,6 @@ use Rattle.ir.specs.declared.Item.{Item}
 use Rattle.ir.specs.declared.Item.TheVariants.{Node, Arm}
 use Rattle.strip.specs.declared.Pass.{Pass}
 use Rattle.strip.specs.declared.Pass.TheVariants.{At, Stopped}
-use Rattle.strip.specs.contracts.Part.{the_type as part_type}
 use Rattle.strip.specs.declared.Part.{Part}
 use Rattle.strip.specs.declared.Part.TheVariants.{Free, Kept, Small, Constant, Params, Value, Run, Arguments, ValueIf, BlockIf, Nothing}
 use Rattle.strip.proofs.Laws.{standing, guards, keeps, keeps_below, blanks, checking}
@@ -55,32 +52,6 @@ later n m kind (inr h) k = inr (past n m kind k h)
 
 -- 2. Parts
 
--- the variants that hold nothing are known by their numbers
-abbrev names : List Part
-names = Nothing ∷ Nothing ∷ Nothing ∷ Constant ∷ Params ∷ Value ∷ Nothing ∷ Arguments ∷ ValueIf ∷ BlockIf ∷ Nothing ∷ []
-
-abbrev plain : List Bool
-plain = false ∷ false ∷ false ∷ true ∷ true ∷ true ∷ false ∷ true ∷ true ∷ true ∷ true ∷ []
-
-abbrev Named : Part → Type 0
-Named p = (k : ℕ) → tag_of part_type p ≡ k → get_or plain k false ≡ true → p ≡ get_or names k Nothing
-
-holds : (p : Part) (i : ℕ) → tag_of part_type p ≡ i → get_or plain i false ≡ false → Named p
-holds p i d h k e g = absurd (true≢false (sym g ∙ ap (λ (k : ℕ). get_or plain k false) (sym e ∙ d) ∙ h))
-
-named : (p : Part) → Named p
-named (Free w) k e g = holds (Free w) 0 refl refl k e g
-named (Kept w) k e g = holds (Kept w) 1 refl refl k e g
-named (Small w) k e g = holds (Small w) 2 refl refl k e g
-named Constant k e g = ap (λ (k : ℕ). get_or names k Nothing) e
-named Params k e g = ap (λ (k : ℕ). get_or names k Nothing) e
-named Value k e g = ap (λ (k : ℕ). get_or names k Nothing) e
-named (Run i) k e g = holds (Run i) 6 refl refl k e g
-named Arguments k e g = ap (λ (k : ℕ). get_or names k Nothing) e
-named ValueIf k e g = ap (λ (k : ℕ). get_or names k Nothing) e
-named BlockIf k e g = ap (λ (k : ℕ). get_or names k Nothing) e
-named Nothing k e g = ap (λ (k : ℕ). get_or names k Nothing) e
-
 module _ (depth blocks : ℕ) (s : List ℕ) (end : ℕ) (part : Part) (at n : ℕ) (o : List ℕ) (r : Pass) (o' : List ℕ) where
   -- a step that is the part's
   abbrev Is : (step : (ℕ → Strip) → Strip) → Part → Type 0
@@ -105,17 +76,17 @@ module _ (depth blocks : ℕ) (s : List ℕ) (end : ℕ) (part : Part) (at n : �
   unfolding strip_parts
   a_small bound r₀ e k c f g = parted (keep_below s end bound) (Small bound) e (λ ps rest. refl) (subst (λ (o' : List ℕ). Did s at o (keep_below s end bound) r o') (sym k) (keeps_below s o at end bound r₀ r c f g))
 
-  pub a_constant : tag_of part_type part ≡ 3 → Did s at o (constant_step s end n) r o' → Does
+  pub a_constant : part ≡ Constant → Did s at o (constant_step s end n) r o' → Does
   unfolding strip_parts
-  a_constant e d = parted _ Constant (named part 3 e refl) (λ ps rest. refl) d
+  a_constant e d = parted _ Constant e (λ ps rest. refl) d
 
-  pub a_params : tag_of part_type part ≡ 4 → o' ≡ o → Copied s at o → KeptBy s at (params_step s end) r → Does
+  pub a_params : part ≡ Params → o' ≡ o → Copied s at o → KeptBy s at (params_step s end) r → Does
   unfolding strip_parts
-  a_params e k c h = parted (params_step s end) Params (named part 4 e refl) (λ ps rest. refl) (subst (λ (o' : List ℕ). Did s at o (params_step s end) r o') (sym k) (h o c))
+  a_params e k c h = parted (params_step s end) Params e (λ ps rest. refl) (subst (λ (o' : List ℕ). Did s at o (params_step s end) r o') (sym k) (h o c))
 
-  pub a_value : tag_of part_type part ≡ 5 → Did s at o (λ next. strip_expr depth s end and next n) r o' → Does
+  pub a_value : part ≡ Value → Did s at o (λ next. strip_expr depth s end and next n) r o' → Does
   unfolding strip_parts
-  a_value e d = parted _ Value (named part 5 e refl) (λ ps rest. refl) d
+  a_value e d = parted _ Value e (λ ps rest. refl) d
 
   run_is : (item : Item) → Is (λ next. strip_run s end (item_of item depth blocks s) (λ k. next n)) (Run item)
   unfolding strip_parts
@@ -126,17 +97,17 @@ module _ (depth blocks : ℕ) (s : List ℕ) (end : ℕ) (part : Part) (at n : �
   pub a_run : (item : Item) (r₀ : Pass) → part ≡ Run item → Did s at o (strip_run s end (item_of item depth blocks s)) r₀ o' → r ≡ handed n r₀ → Does
   a_run item r₀ e d h = parted _ (Run item) e (run_is item) (guards s o o' at (λ a k. true) (λ k. n) (strip_run s end (item_of item depth blocks s)) r₀ r d h)
 
-  pub an_arguments : (r₀ : Pass) → tag_of part_type part ≡ 7 → Did s at o (strip_run s end (strip_expr depth s)) r₀ o' → r ≡ closed_args end n r₀ → Does
+  pub an_arguments : (r₀ : Pass) → part ≡ Arguments → Did s at o (strip_run s end (strip_expr depth s)) r₀ o' → r ≡ closed_args end n r₀ → Does
   unfolding strip_parts
   an_arguments r₀ e d h =
-      parted _ Arguments (named part 7 e refl) (λ ps rest. refl) (guards s o o' at (λ a k. eqb a end && leb k n) (λ k. n) (strip_run s end (strip_expr depth s)) r₀ r d h)
+      parted _ Arguments e (λ ps rest. refl) (guards s o o' at (λ a k. eqb a end && leb k n) (λ k. n) (strip_run s end (strip_expr depth s)) r₀ r d h)
 
   -- nothing is there
   stands : o' ≡ o → r ≡ At at n → Copied s at o → Did s at o (λ next. next n) r o'
   stands k h c = subst (λ (o' : List ℕ). Did s at o (λ next. next n) r o') (sym k) (subst (λ (r : Pass). Did s at o (λ next. next n) r o) (sym h) (standing s o at n c))
 
-  pub no_part : tag_of part_type part ≡ 10 → o' ≡ o → r ≡ At at n → Copied s at o → Does
-  no_part e k h c = parted (λ next. next n) Nothing (named part 10 e refl) (λ ps rest. refl) (stands k h c)
+  pub no_part : part ≡ Nothing → o' ≡ o → r ≡ At at n → Copied s at o → Does
+  no_part e k h c = parted (λ next. next n) Nothing e (λ ps rest. refl) (stands k h c)
 
   none_is : n ≡ 0 → Is (λ next. next n) ValueIf × Is (λ next. next n) BlockIf
   unfolding strip_parts
@@ -150,17 +121,17 @@ module _ (depth blocks : ℕ) (s : List ℕ) (end : ℕ) (part : Part) (at n : �
   unfolding strip_parts
   block_is m h = rw h (λ ps rest. refl)
 
-  pub no_value : tag_of part_type part ≡ 8 → n ≡ 0 → o' ≡ o → r ≡ At at n → Copied s at o → Does
-  no_value e z k h c = parted (λ next. next n) ValueIf (named part 8 e refl) (none_is z).0 (stands k h c)
+  pub no_value : part ≡ ValueIf → n ≡ 0 → o' ≡ o → r ≡ At at n → Copied s at o → Does
+  no_value e z k h c = parted (λ next. next n) ValueIf e (none_is z).0 (stands k h c)
 
-  pub some_value : tag_of part_type part ≡ 8 → (n ≡ 0 → ⊥) → Did s at o (λ next. strip_expr depth s end and next n) r o' → Does
-  some_value e z d = parted _ ValueIf (named part 8 e refl) (value_is (n - 1) (omega arith)) d
+  pub some_value : part ≡ ValueIf → (n ≡ 0 → ⊥) → Did s at o (λ next. strip_expr depth s end and next n) r o' → Does
+  some_value e z d = parted _ ValueIf e (value_is (n - 1) (omega arith)) d
 
-  pub no_block : tag_of part_type part ≡ 9 → n ≡ 0 → o' ≡ o → r ≡ At at n → Copied s at o → Does
-  no_block e z k h c = parted (λ next. next n) BlockIf (named part 9 e refl) (none_is z).1 (stands k h c)
+  pub no_block : part ≡ BlockIf → n ≡ 0 → o' ≡ o → r ≡ At at n → Copied s at o → Does
+  no_block e z k h c = parted (λ next. next n) BlockIf e (none_is z).1 (stands k h c)
 
-  pub some_block : (r₀ : Pass) → tag_of part_type part ≡ 9 → (n ≡ 0 → ⊥) → Did s at o (strip_run s end (strip_stmt blocks s)) r₀ o' → r ≡ handed n r₀ → Does
-  some_block r₀ e z d h = parted _ BlockIf (named part 9 e refl) (block_is (n - 1) (omega arith)) (guards s o o' at (λ a k. true) (λ k. n) (strip_run s end (strip_stmt blocks s)) r₀ r d h)
+  pub some_block : (r₀ : Pass) → part ≡ BlockIf → (n ≡ 0 → ⊥) → Did s at o (strip_run s end (strip_stmt blocks s)) r₀ o' → r ≡ handed n r₀ → Does
+  some_block r₀ e z d h = parted _ BlockIf e (block_is (n - 1) (omega arith)) (guards s o o' at (λ a k. true) (λ k. n) (strip_run s end (strip_stmt blocks s)) r₀ r d h)
 
 -- 3. One part after another
 

@@ -1,4 +1,6 @@
 // Strips a unit: what may differ in two units that lower alike, names, lines and constants, is set to the least of its class.
+#![tactic(auto)]
+
 ghost use Rattle.std.specs.Prelude.{◌≡◌, length};
 ghost use Rattle.definitions.specs.Strip.{strip, strip_into, strip_to};
 ghost use Rattle.strip.specs.Values.{stripping};
@@ -11,14 +13,14 @@ use ir::{Item, Refusal};
 use nodes::strip_unit;
 
 // How many bytes the stripped unit has, or why there is none.
-#[derive(Drop)]
+#[derive(Clone, Copy)]
 pub enum Stripped {
     Done { count: usize },
     Refused(Refusal),
 }
 
 // Where stripping stands: at a position, with the mark or the count that was passed last, or stopped for good.
-#[derive(Drop)]
+#[derive(Clone, Copy)]
 enum Pass {
     At { at: usize, n: usize },
     Stopped,
@@ -26,7 +28,7 @@ enum Pass {
 
 // What a node has after its kind: bytes that may differ, bytes that may not, a byte below a bound, a constant, a callee's parameters, an
 // expression, a run, a call's arguments, and what is there if the mark that was passed last is 1. `Nothing` fills a list up.
-#[derive(Drop)]
+#[derive(Clone, Copy)]
 enum Part {
     Free(usize),
     Kept(usize),

@@ -11,7 +11,7 @@ use super::{Part, Pass};
 use ir::{Class, Item};
 
 // A node of a class, in a holder that ends at `end`: its depth, its length, its kind, its parts; n is handed on.
-#[cycle(strip_item_strip_items_strip_node_strip_part_strip_parts_strip_run)]
+#[cycle(nodes)]
 fn strip_node(
     s: &[u8],
     out: &mut [u8],
@@ -42,7 +42,7 @@ fn strip_node(
 }
 
 // The parts of a node and its end, with `depth` for the expressions in it and `blocks` for the statements, which is 0 in an expression.
-#[cycle(strip_item_strip_items_strip_node_strip_part_strip_parts_strip_run)]
+#[cycle(nodes)]
 fn strip_parts(
     s: &[u8],
     out: &mut [u8],
@@ -76,7 +76,7 @@ fn strip_parts(
 }
 
 // A part of a node; n is the mark or the count that was passed last.
-#[cycle(strip_item_strip_items_strip_node_strip_part_strip_parts_strip_run)]
+#[cycle(nodes)]
 fn strip_part(
     s: &[u8],
     out: &mut [u8],
@@ -117,7 +117,7 @@ fn strip_part(
 }
 
 // A run: its length, then items that fill it; their count is handed on.
-#[cycle(strip_item_strip_items_strip_node_strip_part_strip_parts_strip_run)]
+#[cycle(nodes)]
 fn strip_run(
     s: &[u8],
     out: &mut [u8],
@@ -138,7 +138,7 @@ fn strip_run(
 }
 
 // Items from `at` up to `end`, and how many.
-#[cycle(strip_item_strip_items_strip_node_strip_part_strip_parts_strip_run)]
+#[cycle(nodes)]
 fn strip_items(
     s: &[u8],
     out: &mut [u8],
@@ -169,7 +169,7 @@ fn strip_items(
 }
 
 // An item of a run: a node, or an arm, which is a condition (a matcher) and a block; n is handed on.
-#[cycle(strip_item_strip_items_strip_node_strip_part_strip_parts_strip_run)]
+#[cycle(nodes)]
 fn strip_item(
     s: &[u8],
     out: &mut [u8],
