@@ -1,5 +1,7 @@
 // The functions of the static library, for C and Rust. Each takes any arguments, and answers true with what was made in three numbers,
 // or false with number, place and extra of the refusal, which leaves every buffer as it was.
+#![tactic(auto)]
+
 ghost use Rattle.std.specs.Prelude.{◌≡◌, length};
 ghost use Rattle.definitions.specs.Listing.{read_listing, view};
 ghost use Rattle.definitions.specs.Resolve.{resolve};
@@ -26,7 +28,7 @@ fn give(
     second: &mut usize,
     third: &mut usize,
 ) -> bool
-    ensures { numbers «r» first.new second.new third.new ≡ numbers done a b c }
+    ensures { numbers result first.new second.new third.new ≡ numbers done a b c }
 {
     *first = a;
     *second = b;
@@ -36,7 +38,7 @@ fn give(
 
 // Records, labels and total size of a unit.
 fn totals(answer: Lowered, first: &mut usize, second: &mut usize, third: &mut usize) -> bool
-    ensures { numbers «r» first.new second.new third.new ≡ measured (measuring answer) }
+    ensures { numbers result first.new second.new third.new ≡ measured (measuring answer) }
 {
     match answer {
         Lowered::Done(c) => {
@@ -51,7 +53,7 @@ fn totals(answer: Lowered, first: &mut usize, second: &mut usize, third: &mut us
 
 // Records of a listing.
 fn records(answer: Resolved, first: &mut usize, second: &mut usize, third: &mut usize) -> bool
-    ensures { numbers «r» first.new second.new third.new ≡ records_of answer }
+    ensures { numbers result first.new second.new third.new ≡ records_of answer }
 {
     match answer {
         Resolved::Done { count } => give(true, count, 0, 0, first, second, third),
@@ -67,7 +69,7 @@ pub extern "C" fn delzhomo_measure(
     second: &mut usize,
     third: &mut usize,
 ) -> bool
-    ensures { numbers «r» first.new second.new third.new ≡ measured (measure unit.now) }
+    ensures { numbers result first.new second.new third.new ≡ measured (measure unit.now) }
 {
     let answer = assemble::measure(unit);
     totals(answer, first, second, third)
@@ -83,7 +85,7 @@ pub extern "C" fn delzhomo_lower(
     second: &mut usize,
     third: &mut usize,
 ) -> bool
-    ensures third_after { numbers «r» first.new second.new third.new ≡ lowered (lower_to (lower_into unit.now (length out.old) (length marks.old)) out.old marks.old) }
+    ensures third_after { numbers result first.new second.new third.new ≡ lowered (lower_to (lower_into unit.now (length out.old) (length marks.old)) out.old marks.old) }
     ensures out_after { out.new ≡ out_of (lower_to (lower_into unit.now (length out.old) (length marks.old)) out.old marks.old) }
     ensures marks_after { marks.new ≡ marks_of (lower_to (lower_into unit.now (length out.old) (length marks.old)) out.old marks.old) }
 {
@@ -101,7 +103,7 @@ pub extern "C" fn delzhomo_resolve(
     second: &mut usize,
     third: &mut usize,
 ) -> bool
-    ensures third_after { numbers «r» first.new second.new third.new ≡ resolved (resolve_to (resolve listing.now marks.now (length out.old)) out.old) }
+    ensures third_after { numbers result first.new second.new third.new ≡ resolved (resolve_to (resolve listing.now marks.now (length out.old)) out.old) }
     ensures out_after { out.new ≡ code_of (resolve_to (resolve listing.now marks.now (length out.old)) out.old) }
 {
     let answer = resolve::resolve(listing, marks, out);
@@ -116,7 +118,7 @@ pub extern "C" fn delzhomo_check(
     second: &mut usize,
     third: &mut usize,
 ) -> bool
-    ensures { numbers «r» first.new second.new third.new ≡ checked (read_listing listing.now) }
+    ensures { numbers result first.new second.new third.new ≡ checked (read_listing listing.now) }
 {
     let answer = listings::check_listing(listing);
     match answer {
@@ -134,7 +136,7 @@ pub extern "C" fn delzhomo_view(
     second: &mut usize,
     third: &mut usize,
 ) -> bool
-    ensures { numbers «r» first.new second.new third.new ≡ viewed n (view listing.now n) }
+    ensures { numbers result first.new second.new third.new ≡ viewed n (view listing.now n) }
 {
     let answer = listings::view_check(listing, n);
     match answer {
@@ -156,7 +158,7 @@ pub extern "C" fn delzhomo_strip(
     second: &mut usize,
     third: &mut usize,
 ) -> bool
-    ensures third_after { numbers «r» first.new second.new third.new ≡ stripped (strip_to (strip_into unit.now (length out.old)) out.old) }
+    ensures third_after { numbers result first.new second.new third.new ≡ stripped (strip_to (strip_into unit.now (length out.old)) out.old) }
     ensures out_after { out.new ≡ stripped_of (strip_to (strip_into unit.now (length out.old)) out.old) }
 {
     let answer = strip::strip(unit, out);
@@ -175,7 +177,7 @@ pub extern "C" fn delzhomo_store(
     second: &mut usize,
     third: &mut usize,
 ) -> bool
-    ensures third_after { numbers «r» first.new second.new third.new ≡ resolved (resolve_to (store listing.now (length out.old)) out.old) }
+    ensures third_after { numbers result first.new second.new third.new ≡ resolved (resolve_to (store listing.now (length out.old)) out.old) }
     ensures out_after { out.new ≡ code_of (resolve_to (store listing.now (length out.old)) out.old) }
 {
     let answer = store::store(listing, out);
@@ -191,7 +193,7 @@ pub extern "C" fn delzhomo_restore(
     second: &mut usize,
     third: &mut usize,
 ) -> bool
-    ensures third_after { numbers «r» first.new second.new third.new ≡ resolved (resolve_to (restore listing.now (length out.old)) out.old) }
+    ensures third_after { numbers result first.new second.new third.new ≡ resolved (resolve_to (restore listing.now (length out.old)) out.old) }
     ensures out_after { out.new ≡ code_of (resolve_to (restore listing.now (length out.old)) out.old) }
 {
     let answer = store::restore(listing, out);

@@ -1,4 +1,6 @@
 // The whole stage: a unit's bytes in, document 01's printed text out, in a lent buffer.
+#![tactic(auto)]
+
 ghost use Rattle.std.specs.Prelude.{◌≤◌, length};
 ghost use Rattle.definitions.specs.Code.{label_limit};
 ghost use Rattle.definitions.specs.Listing.{listing_length};
