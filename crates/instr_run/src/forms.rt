@@ -1,7 +1,8 @@
 // The tables by the match and by the constant, over all tags; numbers at the end of a slice.
-use super::{OUT, line, one_if};
+use super::{line, one_if};
 use instr::tables::{DefaultTag, Row};
 use instr::{numbers, tables};
+use std::io;
 
 fn same_row(a: Row, b: Row) -> bool {
     a.small == b.small
@@ -67,38 +68,36 @@ fn total_size() -> u64 {
     sum
 }
 
-fn say_default(text: &[u8], d: DefaultTag) {
+fn say_default(rt: &impl Print, text: &str, d: DefaultTag) -> io::Result<()> {
     match d {
-        DefaultTag::Is(tag) => line(text, tag as u64),
-        DefaultTag::NoValue => {
-            io::write_all(OUT, text);
-            io::write_all(OUT, b" no value\n");
-        }
+        DefaultTag::Is(tag) => line(rt, text, tag as u64),
+        DefaultTag::NoValue => println!(rt; "{text} no value"),
     }
 }
 
-pub fn run_tables() {
-    line(b"sizes agree", sizes_agree());
-    line(b"rows agree", rows_agree());
-    line(b"default tags agree", defaults_agree());
-    say_default(b"default 16", tables::default_tag(16));
-    say_default(b"default 17", tables::default_tag(17));
-    line(b"size", total_size());
+pub fn run_tables(rt: &impl Print) -> io::Result<()> {
+    line(rt, "sizes agree", sizes_agree())?;
+    line(rt, "rows agree", rows_agree())?;
+    line(rt, "default tags agree", defaults_agree())?;
+    say_default(rt, "default 16", tables::default_tag(16))?;
+    say_default(rt, "default 17", tables::default_tag(17))?;
+    line(rt, "size", total_size())
 }
 
 // Numbers in nine bytes: the last that is there whole, the next, and past the end.
-pub fn run_numbers() {
+pub fn run_numbers(rt: &impl Print) -> io::Result<()> {
     let s = [1u8, 2, 3, 4, 5, 6, 7, 8, 9];
-    line(b"byte at 8", numbers::byte_at(&s, 8) as u64);
-    line(b"byte at 9", numbers::byte_at(&s, 9) as u64);
-    line(b"u16 at 7", numbers::u16_at(&s, 7) as u64);
-    line(b"u16 at 8", numbers::u16_at(&s, 8) as u64);
-    line(b"u32 at 5", numbers::u32_at(&s, 5) as u64);
-    line(b"u32 at 6", numbers::u32_at(&s, 6) as u64);
-    line(b"u64 at 1", numbers::u64_at(&s, 1));
-    line(b"u64 at 2", numbers::u64_at(&s, 2));
+    line(rt, "byte at 8", numbers::byte_at(&s, 8) as u64)?;
+    line(rt, "byte at 9", numbers::byte_at(&s, 9) as u64)?;
+    line(rt, "u16 at 7", numbers::u16_at(&s, 7) as u64)?;
+    line(rt, "u16 at 8", numbers::u16_at(&s, 8) as u64)?;
+    line(rt, "u32 at 5", numbers::u32_at(&s, 5) as u64)?;
+    line(rt, "u32 at 6", numbers::u32_at(&s, 6) as u64)?;
+    line(rt, "u64 at 1", numbers::u64_at(&s, 1))?;
+    line(rt, "u64 at 2", numbers::u64_at(&s, 2))?;
     line(
-        b"u64 at the last place",
+        rt,
+        "u64 at the last place",
         numbers::u64_at(&s, 18446744073709551615),
-    );
+    )
 }

@@ -1,5 +1,7 @@
 // The tables by their two forms, numbers at the end of a slice, a front at the limit; then every tag's record is written, checked and
 // seen, and each byte of each record is damaged in turn. The counts are the program's own.
+#![tactic(auto)]
+
 mod forms;
 
 ghost use Rattle.std.specs.Prelude.{◌^◌, ◌<◌, ◌≤◌};
@@ -7,28 +9,19 @@ ghost use Rattle.std.specs.Prelude.{◌^◌, ◌<◌, ◌≤◌};
 use instr::listings::{Checked, Viewed};
 use instr::records::Record;
 use instr::{listings, numbers, records, tables};
-
-const OUT: i32 = 1;
+use std::io;
 
 // The front and 77 records.
 const LENGTH: usize = 1699;
 
 // A text and a number on a line.
-fn line(text: &[u8], n: u64) {
-    io::write_all(OUT, text);
-    io::write_all(OUT, b" ");
-    io::print_decimal(OUT, n);
-    io::write_all(OUT, b"\n");
+fn line(rt: &impl Print, text: &str, n: u64) -> io::Result<()> {
+    println!(rt; "{text} {n}")
 }
 
 // A text and the three numbers of a refusal; the extra is 0.
-fn refusal(text: &[u8], number: u64, place: u64) {
-    io::write_all(OUT, text);
-    io::write_all(OUT, b" ");
-    io::print_decimal(OUT, number);
-    io::write_all(OUT, b" ");
-    io::print_decimal(OUT, place);
-    io::write_all(OUT, b" 0\n");
+fn refusal(rt: &impl Print, text: &str, number: u64, place: u64) -> io::Result<()> {
+    println!(rt; "{text} {number} {place} 0")
 }
 
 // 1 for true.
@@ -39,13 +32,13 @@ fn one_if(same: bool) -> u64
 }
 
 // A front of so many records in five bytes of 7: whether it is written, and what stands there then.
-fn run_front(text: &[u8], count: u32) {
+fn run_front(rt: &impl Print, text: &str, count: u32) -> io::Result<()> {
     let mut s = [7u8; 5];
     let written = listings::write_front(&mut s, count);
-    io::write_all(OUT, text);
-    line(b" written", one_if(written));
-    line(b"  version", numbers::byte_at(&s, 0) as u64);
-    line(b"  length", numbers::u32_at(&s, 1) as u64);
+    print!(rt; "{text}")?;
+    line(rt, " written", one_if(written))?;
+    line(rt, "  version", numbers::byte_at(&s, 0) as u64)?;
+    line(rt, "  length", numbers::u32_at(&s, 1) as u64)
 }
 
 fn byte_if(used: bool, field: u8) -> u8 {
@@ -200,17 +193,17 @@ fn damaged_from(s: &mut [u8], from: usize, end: usize, step: usize) -> u64
     refused
 }
 
-fn damage_records(s: &mut [u8], end: usize)
+fn damage_records(rt: &impl Print, s: &mut [u8], end: usize) -> io::Result<()>
     requires { end < 2 ^ 32 }
 {
     let mut place: usize = 0;
     while place < Record::LENGTH {
         let refused = damaged_from(s, listings::FRONT + place, end, Record::LENGTH);
-        io::write_all(OUT, b"byte ");
-        io::print_decimal(OUT, place as u64);
-        line(b" damaged, refused", refused);
+        print!(rt; "byte {place}")?;
+        line(rt, " damaged, refused", refused)?;
         place += 1;
     }
+    Ok(())
 }
 
 // 1 where the record with the byte at `at` one higher is good by itself just where the listing is taken. The byte is put back.
@@ -240,57 +233,56 @@ fn all_alone(s: &mut [u8]) -> u64 {
     found
 }
 
-fn say(text: &[u8], v: Viewed) {
+fn say(rt: &impl Print, text: &str, v: Viewed) -> io::Result<()> {
     match v {
-        Viewed::Seen => {
-            io::write_all(OUT, text);
-            io::write_all(OUT, b" seen\n");
-        }
-        Viewed::Bad => refusal(text, 30, 0),
-        Viewed::Past { number } => refusal(text, 22, number as u64),
+        Viewed::Seen => println!(rt; "{text} seen"),
+        Viewed::Bad => refusal(rt, text, 30, 0),
+        Viewed::Past { number } => refusal(rt, text, 22, number as u64),
     }
 }
 
 // All tags' records, written into a listing, and then its front.
-fn run_written(s: &mut [u8]) {
+fn run_written(rt: &impl Print, s: &mut [u8]) -> io::Result<()> {
     let written = fill(s);
-    line(b"written", written as u64);
-    say(b"no front", listings::view_check(s, 0));
+    line(rt, "written", written as u64)?;
+    say(rt, "no front", listings::view_check(s, 0))?;
     listings::write_front(s, written);
+    Ok(())
 }
 
 // The listing checked, and its records seen.
-fn run_seen(s: &[u8]) {
+fn run_seen(rt: &impl Print, s: &[u8]) -> io::Result<()> {
     match listings::check_listing(s) {
-        Checked::Good { count } => line(b"checked", count as u64),
-        Checked::Bad => line(b"checked", 0),
+        Checked::Good { count } => line(rt, "checked", count as u64)?,
+        Checked::Bad => line(rt, "checked", 0)?,
     }
-    line(b"seen", seen(s));
-    line(b"seen without the last byte", cut(s));
-    say(b"first", listings::view_check(s, 0));
-    say(b"last", listings::view_check(s, 76));
-    say(b"past", listings::view_check(s, 77));
-    say(b"far past", listings::view_check(s, 1000));
+    line(rt, "seen", seen(s))?;
+    line(rt, "seen without the last byte", cut(s))?;
+    say(rt, "first", listings::view_check(s, 0))?;
+    say(rt, "last", listings::view_check(s, 76))?;
+    say(rt, "past", listings::view_check(s, 77))?;
+    say(rt, "far past", listings::view_check(s, 1000))
 }
 
 // The listing with one byte damaged at a time.
-fn run_damaged(s: &mut [u8]) {
-    damage_records(s, LENGTH);
+fn run_damaged(rt: &impl Print, s: &mut [u8]) -> io::Result<()> {
+    damage_records(rt, s, LENGTH)?;
     line(
-        b"front bytes damaged, refused",
+        rt,
+        "front bytes damaged, refused",
         damaged_from(s, 0, listings::FRONT, 1),
-    );
-    line(b"damaged, a record alone decides", all_alone(s));
-    line(b"seen again", seen(s));
+    )?;
+    line(rt, "damaged, a record alone decides", all_alone(s))?;
+    line(rt, "seen again", seen(s))
 }
 
-fn main() {
-    forms::run_tables();
-    forms::run_numbers();
-    run_front(b"1048576 records", 1048576);
-    run_front(b"1048577 records", 1048577);
+fn main(rt: HostRuntime) -> io::Result<()> {
+    forms::run_tables(&rt)?;
+    forms::run_numbers(&rt)?;
+    run_front(&rt, "1048576 records", 1048576)?;
+    run_front(&rt, "1048577 records", 1048577)?;
     let mut listing = [0u8; LENGTH];
-    run_written(&mut listing);
-    run_seen(&listing);
-    run_damaged(&mut listing);
+    run_written(&rt, &mut listing)?;
+    run_seen(&rt, &listing)?;
+    run_damaged(&rt, &mut listing)
 }

@@ -1,69 +1,75 @@
 // Reads units and prints what `read_unit` says of each: those of the input, a name and hexadecimal digits to a line, and then
 // units at the limits.
+#![tactic(auto)]
+
 ghost use Rattle.std.specs.Prelude.{◌≤◌, length};
 
 mod limits;
 
 use ir::ReadUnit;
 use samples::text;
+use std::io;
+use std::io::Write;
 
-fn number(n: usize) {
-    io::write_all(1, b" ");
-    io::print_decimal(1, n as u64);
+fn number(rt: &impl Print, n: usize) -> io::Result<()> {
+    print!(rt; " {n}")
 }
 
-fn show(unit: &[u8]) {
+fn show(rt: &impl Print, unit: &[u8]) -> io::Result<()> {
     match ir::read_unit(unit) {
         ReadUnit::Reads { returns, end } => {
-            io::write_all(1, b" reads");
-            number(returns);
-            number(end);
+            print!(rt; " reads")?;
+            number(rt, returns)?;
+            number(rt, end)?;
         }
         ReadUnit::Fails(q) => {
-            io::write_all(1, b" refused");
-            number(q.number);
-            number(q.place);
-            number(q.extra);
+            print!(rt; " refused")?;
+            number(rt, q.number)?;
+            number(rt, q.place)?;
+            number(rt, q.extra)?;
         }
     }
-    io::write_all(1, b"\n");
+    println!(rt)
 }
 
 // The first n bytes as a unit.
-fn show_first(out: &[u8], n: usize) {
+fn show_first(rt: &impl Print, out: &[u8], n: usize) -> io::Result<()> {
     if n <= out.len() {
-        show(&out[..n]);
+        show(rt, &out[..n])?;
     }
+    Ok(())
 }
 
 // The unit that the digits spell, of which the first 2,048 bytes are taken.
-fn decoded(digits: &[u8]) {
+fn decoded(rt: &impl Print, digits: &[u8]) -> io::Result<()> {
     let mut unit = [0u8; 2048];
     let n = text::decode(digits, &mut unit);
-    show_first(&unit, n);
+    show_first(rt, &unit, n)
 }
 
-fn line(words: &[u8]) {
+fn line(rt: &impl Print, words: &[u8]) -> io::Result<()> {
     let space = text::find(words, b' ');
-    io::write_all(1, &words[..space]);
+    io::writer(rt).write_all(&words[..space])?;
     if space < words.len() {
-        decoded(&words[space + 1..]);
+        decoded(rt, &words[space + 1..])?;
     }
+    Ok(())
 }
 
-fn lines(words: &[u8]) {
+fn lines(rt: &impl Print, words: &[u8]) -> io::Result<()> {
     let mut at = 0;
     while at < words.len() {
         let rest = &words[at..];
         let end = text::find(rest, b'\n');
-        line(&rest[..end]);
+        line(rt, &rest[..end])?;
         at = at + end + 1;
     }
+    Ok(())
 }
 
-fn main() {
-    let mut words = io::large_buffer();
-    let n = io::read_full(0, &mut words);
-    lines(&words[..n]);
-    limits::show_all();
+fn main(rt: HostRuntime) -> io::Result<()> {
+    let mut words = [0u8; 65536];
+    let n = text::read_full(&mut rt.reader(), &mut words)?;
+    lines(&rt, &words[..n])?;
+    limits::show_all(&rt)
 }

@@ -1,3 +1,5 @@
 // Units for the programs that the gate runs: read from text, and made at the limits.
+#![tactic(auto)]
+
 pub mod made;
 pub mod text;

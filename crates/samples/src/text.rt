@@ -1,7 +1,24 @@
 // Units as text: a name and hexadecimal digits to a line.
-ghost use Rattle.std.specs.Prelude.{◌≤◌, length};
+ghost use Rattle.std.specs.Prelude.{◌≤◌, length, IfOk};
 
 use super::made::push;
+use std::io;
+use std::io::Read;
+
+// Reads until the buffer is full or the input ends: how many bytes it has then.
+pub fn read_full(input: &mut impl Read, out: &mut [u8]) -> io::Result<usize>
+    ensures { IfOk result (λ n. n ≤ length out.new) }
+{
+    let mut n = 0;
+    while n < out.len() {
+        let got = input.read(&mut out[n..])?;
+        if got == 0 {
+            break;
+        }
+        n += got;
+    }
+    Ok(n)
+}
 
 // The value of a hexadecimal digit; 16 for any other byte.
 fn digit(b: u8) -> u8

@@ -1,72 +1,70 @@
 // Reads a unit from standard input and prints its stage, document 01's printed form.
+#![tactic(auto)]
+
 use print::Text;
+use std::io;
+use std::io::{Read, Write};
 
 // One byte more than the longest unit, so that a longer input shows.
-type Input = [u8; 2049];
+type Unit = [u8; 2049];
 
 // The text of a unit of 2,048 bytes: at most 2,048 lines of at most 56 bytes, and the first.
 type Page = [u8; 131072];
 
 // What was read, or that reading failed.
-#[derive(Drop)]
+#[derive(Clone, Copy)]
 enum Got {
     Bytes(usize),
     Failure,
 }
 
-// The whole input, as far as it fits. The kit's read_full does not tell an error from the end.
-fn read_input(input: &mut [u8]) -> Got {
+// The whole input, as far as it fits.
+fn read_input(from: &mut impl Read, input: &mut [u8]) -> Got {
     let mut n = 0;
     while n < input.len() {
-        let part = &mut input[n..];
-        let got = libc::read(0, part);
-        if got < 0 {
-            return Got::Failure;
+        match from.read(&mut input[n..]) {
+            Ok(0) => return Got::Bytes(n),
+            Ok(step) => n += step,
+            Err(_) => return Got::Failure,
         }
-        let step = io::count(got, part);
-        if step == 0 {
-            return Got::Bytes(n);
-        }
-        n += step;
     }
     Got::Bytes(n)
 }
 
-fn message(text: &[u8]) {
-    io::write_all(2, b"stage: ");
-    io::write_all(2, text);
-    io::write_all(2, b"\n");
+fn message(rt: &impl Eprint, text: &str) -> io::Result<()> {
+    eprintln!(rt; "stage: {text}")
 }
 
 // The whole text at once: nothing is printed before all of it is there.
-fn print_all(text: &[u8]) {
-    if io::write_all(1, text) {
-        return;
+fn print_all(rt: &(impl Print + Eprint), text: &[u8]) -> io::Result<()> {
+    if io::writer(rt).write_all(text).is_ok() {
+        return Ok(());
     }
-    message(b"the output could not be written");
+    message(rt, "the output could not be written")
 }
 
-fn print_stage(input: &[u8], page: &mut [u8]) {
+fn print_stage(rt: &(impl Print + Eprint), input: &[u8], page: &mut [u8]) -> io::Result<()> {
     match show::show(input, page) {
-        Text::Done { length } => print_all(&page[..length]),
-        Text::Bad => message(b"the listing is none"),
-        Text::Short => message(b"the text is too long"),
+        Text::Done { length } => print_all(rt, &page[..length]),
+        Text::Bad => message(rt, "the listing is none"),
+        Text::Short => message(rt, "the text is too long"),
     }
 }
 
-fn run(input: &mut [u8], page: &mut [u8]) {
-    match read_input(input) {
-        Got::Failure => message(b"the input could not be read"),
+fn run(rt: &(impl Input + Print + Eprint), input: &mut [u8], page: &mut [u8]) -> io::Result<()> {
+    match read_input(&mut rt.reader(), input) {
+        Got::Failure => message(rt, "the input could not be read"),
         Got::Bytes(n) => {
             if n <= input.len() {
-                print_stage(&input[..n], page);
+                print_stage(rt, &input[..n], page)?;
             }
+            Ok(())
         }
     }
 }
 
-fn main() {
-    let mut input: Input = [0; 2049];
+fn main(rt: HostRuntime) -> io::Result<()> {
+    let mut input: Unit = [0; 2049];
     let mut page: Page = [0; 131072];
-    run(&mut input, &mut page);
+    run(&rt, &mut input, &mut page)
 }

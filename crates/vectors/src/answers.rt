@@ -5,6 +5,7 @@ use assemble::Lowered;
 use instr::listings;
 use instr::records::Record;
 use ir::Refusal;
+use itoa::Buffer;
 use print::{Form, Text};
 use resolve::Resolved;
 use samples::text;
@@ -75,9 +76,8 @@ pub fn stage(
 
 // A number on a line.
 fn line(n: u64, at: usize, out: &mut [u8]) -> usize {
-    let mut digits = [0u8; 20];
-    let count = io::decimal(n, &mut digits);
-    let after = text::put(&digits[..count], at, out);
+    let mut digits = Buffer::new();
+    let after = text::put(digits.format(n).as_bytes(), at, out);
     text::put(b"\n", after, out)
 }
 

@@ -1,28 +1,33 @@
 // Document 01's cases that are executed: recorded answers replayed through the entry points, units at the limits, and buffers with
 // just enough room or a little less.
+#![tactic(auto)]
+
 mod answers;
 mod limits;
 mod replay;
 mod room;
 mod show;
 
+use std::io;
+use std::rt::Files;
+
 // A whole file of units, or a unit at a limit, or a text.
-type Page = [u8; 1400000];
+const PAGE: usize = 1400000;
 
 // Seven bytes more than the largest unit here takes.
-type Listing = [u8; 4325256];
+const LISTING: usize = 4325256;
 
-// The buffers are lent whole: a parameter's length needs no computing.
-fn run(page: &mut Page, out: &mut Listing) {
-    replay::file(b"recorded.txt", false, page);
-    replay::file(b"cases.txt", true, page);
-    replay::file(b"examples.txt", true, page);
-    limits::all(page, out);
-    room::all(page, out);
+fn run(rt: &(impl Files + Print), page: &mut [u8], out: &mut [u8]) -> io::Result<()> {
+    replay::file(rt, "recorded.txt", false, page)?;
+    replay::file(rt, "cases.txt", true, page)?;
+    replay::file(rt, "examples.txt", true, page)?;
+    limits::all(rt, page, out)?;
+    room::all(rt, page, out)
 }
 
-fn main() {
-    let mut page: Page = [0; 1400000];
-    let mut out: Listing = [0; 4325256];
-    run(&mut page, &mut out);
+// Both buffers stand on the heap: with them the stack would be full.
+fn main(rt: HostRuntime) -> io::Result<()> {
+    let mut page = vec![in rt.alloc(); 0; PAGE]?;
+    let mut out = vec![in rt.alloc(); 0; LISTING]?;
+    run(&rt, &mut page, &mut out)
 }

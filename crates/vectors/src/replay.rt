@@ -2,6 +2,10 @@
 // an empty line.
 use super::answers;
 use samples::text;
+use std::fs::File;
+use std::io;
+use std::io::Write;
+use std::rt::Files;
 
 // The longest unit of the files has 1,806 bytes: no more records and no more labels than bytes.
 type Unit = [u8; 2048];
@@ -13,7 +17,7 @@ type Marks = [u32; 2048];
 type Words = [u8; 16384];
 
 // How many units there are, and how many answers agree and differ.
-#[derive(Drop)]
+#[derive(Clone, Copy)]
 struct Tally {
     units: u64,
     agree: u64,
@@ -140,72 +144,81 @@ fn decoded(digits: &[u8], words: &[u8]) -> Tally {
     all_answers(text::first(&unit, n), words)
 }
 
-fn named(words: &[u8], name: &[u8]) {
-    io::write_all(1, words);
-    io::write_all(1, name);
-    io::write_all(1, b"\n");
+fn named(rt: &impl Print, words: &str, name: &[u8]) -> io::Result<()> {
+    print!(rt; "{words}")?;
+    io::writer(rt).write_all(name)?;
+    println!(rt)
 }
 
 // A unit that differs is named, and one that agrees if that is asked for.
-fn verdict(name: &[u8], tally: Tally, naming: bool) {
+fn verdict(rt: &impl Print, name: &[u8], tally: Tally, naming: bool) -> io::Result<()> {
     if tally.differ > 0 {
-        named(b"differs ", name);
+        named(rt, "differs ", name)?;
     } else if tally.agree == 0 {
-        named(b"has no answer ", name);
+        named(rt, "has no answer ", name)?;
     } else if naming {
-        named(b"agrees ", name);
+        named(rt, "agrees ", name)?;
     }
+    Ok(())
 }
 
 // The name, the digits, and after the line's end the answers.
-fn unit(words: &[u8], naming: bool) -> Tally {
+fn unit(rt: &impl Print, words: &[u8], naming: bool) -> io::Result<Tally> {
     let space = text::find(words, b' ');
     let end = text::find(words, b'\n');
     let line = text::first(words, end);
     let tally = decoded(text::rest(line, space + 1), text::rest(words, end + 1));
-    verdict(text::first(words, space), tally, naming);
-    Tally {
+    verdict(rt, text::first(words, space), tally, naming)?;
+    Ok(Tally {
         units: 1,
         agree: tally.agree,
         differ: tally.differ,
-    }
+    })
 }
 
 // The unit that begins at this line, if one does.
-fn unit_here(words: &[u8], naming: bool) -> Tally {
+fn unit_here(rt: &impl Print, words: &[u8], naming: bool) -> io::Result<Tally> {
     if text::begins(words, b"unit ") {
-        return unit(text::rest(words, 5), naming);
+        return unit(rt, text::rest(words, 5), naming);
     }
-    nothing()
+    Ok(nothing())
 }
 
-fn summary(name: &[u8], tally: Tally) {
-    io::write_all(1, name);
-    io::write_all(1, b": units ");
-    io::print_decimal(1, tally.units);
-    io::write_all(1, b", answers that agree ");
-    io::print_decimal(1, tally.agree);
-    io::write_all(1, b", that differ ");
-    io::print_decimal(1, tally.differ);
-    io::write_all(1, b"\n");
+fn summary(rt: &impl Print, name: &str, tally: Tally) -> io::Result<()> {
+    let units = tally.units;
+    let agree = tally.agree;
+    let differ = tally.differ;
+    println!(rt; "{name}: units {units}, answers that agree {agree}, that differ {differ}")
 }
 
 // Every unit of a file, line by line.
-fn all_units(words: &[u8], naming: bool) -> Tally {
+fn all_units(rt: &impl Print, words: &[u8], naming: bool) -> io::Result<Tally> {
     let mut tally = nothing();
     let mut at = 0;
     while at < words.len() {
         let rest = &words[at..];
-        tally = sum(tally, unit_here(rest, naming));
+        tally = sum(tally, unit_here(rt, rest, naming)?);
         at = at + text::find(rest, b'\n') + 1;
     }
-    tally
+    Ok(tally)
+}
+
+// How many bytes of a file come into the page. A file that is missing has none.
+fn read_file(rt: &impl Files, name: &str, page: &mut [u8]) -> io::Result<usize> {
+    match File::open(rt, name) {
+        Ok(mut file) => text::read_full(&mut file, page),
+        Err(_) => Ok(0),
+    }
 }
 
 // A file that is missing has no units.
-pub fn file(name: &[u8], naming: bool, page: &mut [u8]) {
-    let fd = os::open_read(name);
-    let n = io::read_full(fd, page);
-    libc::close(fd);
-    summary(name, all_units(text::first(page, n), naming));
+pub fn file(
+    rt: &(impl Files + Print),
+    name: &str,
+    naming: bool,
+    page: &mut [u8],
+) -> io::Result<()> {
+    let n = read_file(rt, name, page)?;
+    let tally = all_units(rt, text::first(page, n), naming)?;
+    summary(rt, name, tally)
 }
