@@ -7,6 +7,8 @@ use std::process::Command;
 /// The directory to look in, instead of the repository's own.
 const VARIABLE: &str = "DELZHOMO_LIB_DIR";
 const FILE: &str = "libexports.a";
+/// The crate of the repository that it is made of.
+const CRATE: &str = "crates/exports";
 
 fn main() {
     println!("cargo::rerun-if-changed=build.rs");
@@ -31,7 +33,7 @@ fn library_dir() -> Result<PathBuf, String> {
         return named_dir(PathBuf::from(named));
     }
     let root = Path::new(env!("CARGO_MANIFEST_DIR")).join("../..");
-    let dir = root.join("target/staticlib");
+    let dir = root.join(CRATE).join("out");
     if has_library(&dir) {
         return Ok(dir);
     }
@@ -40,7 +42,7 @@ fn library_dir() -> Result<PathBuf, String> {
         Ok(dir)
     } else {
         Err(format!(
-            "`rt staticlib exports` ended well but left no {FILE} in {}",
+            "`rt lib` in {CRATE} ended well but left no {FILE} in {}",
             dir.display()
         ))
     }
@@ -64,8 +66,8 @@ fn has_library(dir: &Path) -> bool {
 
 fn make(root: &Path) -> Result<(), String> {
     let status = Command::new("rt")
-        .args(["staticlib", "exports"])
-        .current_dir(root)
+        .arg("lib")
+        .current_dir(root.join(CRATE))
         .status()
         .map_err(|error| {
             format!(
@@ -77,7 +79,7 @@ fn make(root: &Path) -> Result<(), String> {
         Ok(())
     } else {
         Err(format!(
-            "no {FILE}: `rt staticlib exports` failed ({status}); run it in the repository's root to see why, \
+            "no {FILE}: `rt lib` failed ({status}); run it in the repository's {CRATE} to see why, \
              or set {VARIABLE} to a directory that has the library"
         ))
     }

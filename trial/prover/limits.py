@@ -7,10 +7,10 @@ LABELS, LOWEST, HIGHEST = 6, -12, 23
 # Where each limit stands in the definitions, as a bound that is not reached itself. Only the number is changed: a
 # planted fault may have changed how it is compared.
 BOUNDS = [
-    ("Code.antt", r"^(labelLimit = )65536$", LABELS),
-    ("Resolve.antt", r"^(inRange \(pos n\) = \w+ n )32768$", HIGHEST + 1),
+    ("Code.antt", r"^(label_limit = )65536$", LABELS),
+    ("Resolve.antt", r"^(in_range \(pos n\) = \w+ n )32768$", HIGHEST + 1),
     # negsuc n is -1 - n
-    ("Resolve.antt", r"^(inRange \(negsuc n\) = \w+ n )32768$", -LOWEST),
+    ("Resolve.antt", r"^(in_range \(negsuc n\) = \w+ n )32768$", -LOWEST),
 ]
 
 

@@ -1,5 +1,4 @@
 """Answers as theorems of the definitions, and what the prover says of them."""
-import os
 import re
 import shutil
 import subprocess
@@ -16,21 +15,18 @@ LEFT_OUT = "Examples"
 # What the oracle prints of labelled code, as a value; the printed stage is one already (Printed).
 ASKED = """\
 -- The labelled instructions, their virtual size and the marks of the labels, as the oracle prints them.
-use Prim.Native.Nat.{ℕ}
-use mathlib.Core.List.{List}
-use lib.ListN.{length}
-use lib.IntN.{ℤ, pos}
-use Rattle·definitions.specs.Answer.{Result, made, refusal}
-use Rattle·definitions.specs.Code.{State}
-use Rattle·definitions.specs.Stage.{Line, linesFrom}
+use Rattle.std.specs.Prelude.{ℕ, List, length, ℤ, pos}
+use Rattle.definitions.specs.Answer.{Result, made, refusal}
+use Rattle.definitions.specs.Code.{State}
+use Rattle.definitions.specs.Stage.{Line, lines_from}
 
 pub data Labelled : Type 0 where
   labels : (count total : ℕ) → List Line → (marks : List ℕ) → Labelled
   refuses : (number place extra : ℕ) → Labelled
 
-unfoldable pub asLabelled : Result State → Labelled
-asLabelled (made l) = labels (length (l .instrs)) (l .offset) (linesFrom pos 0 (l .instrs)) (l .marks)
-asLabelled (refusal n p x) = refuses n p x
+unfoldable pub as_labelled : Result State → Labelled
+as_labelled (made l) = labels (length l.instrs) l.offset (lines_from pos 0 l.instrs) l.marks
+as_labelled (refusal n p x) = refuses n p x
 
 -- a printed line
 abbrev pub i : (start tag small : ℕ) → (first second : ℤ) → (line flags value : ℕ) → Line
@@ -38,18 +34,15 @@ i o t m d e l f v = record { start = o; tag = t; small = m; first = d; second = 
 """
 
 IMPORTS = """\
-use Prim.Native.Nat.{ℕ}
-use mathlib.Core.Path.{_≡_, refl}
-use mathlib.Core.List.{List, [], _∷_}
-use lib.IntN.{ℤ, pos, negsuc}
-use Rattle·trial·specs.specs.Asked.{labels, refuses, asLabelled, i}
+use Rattle.std.specs.Prelude.{ℕ, ◌≡◌, refl, List, [], ◌∷◌, ℤ, pos, negsuc}
+use Rattle.trial.specs.Asked.{labels, refuses, as_labelled, i}
 """
 
 # The question of each kind of answer, and the constructors of its reply: code and refused.
-QUESTIONS = {STAGE: "printed (stage {})", LABELLED: "asLabelled (labelled {})"}
+QUESTIONS = {STAGE: "printed (stage {})", LABELLED: "as_labelled (labelled {})"}
 CODE = {STAGE: "code", LABELLED: "labels"}
-REFUSED = {STAGE: "refusedWith", LABELLED: "refuses"}
-CITED = {"Stage": ["code", "refusedWith", "labelled"]}
+REFUSED = {STAGE: "refused_with", LABELLED: "refuses"}
+CITED = {"Stage": ["code", "refused_with", "labelled"]}
 
 
 class ProverFailed(Exception):
@@ -111,14 +104,14 @@ def unfoldable_names(specs):
 
 def heading(names):
     """The `use` lines of a module of theorems."""
-    uses = [f"use Rattle·definitions.specs.{module}.{{{', '.join(found + CITED.get(module, []))}}}\n"
+    uses = [f"use Rattle.definitions.specs.{module}.{{{', '.join(found + CITED.get(module, []))}}}\n"
             for module, found in names.items()]
     return IMPORTS + "".join(uses)
 
 
 def theorems_text(part, names):
     """A module with a theorem for each entry: its name, and the unit and the kind of answer that it is about."""
-    unfolding = " ".join(["asLabelled", *(name for found in names.values() for name in found)])
+    unfolding = " ".join(["as_labelled", *(name for found in names.values() for name in found)])
     return "\n".join([heading(names), *(theorem(name, *asked, unfolding) for name, asked in part)])
 
 
@@ -151,8 +144,7 @@ class Scratch:
 
     def prove(self, crate):
         """Runs the prover on a crate and what it depends on: whether all is proved, and what it says."""
-        settings = dict(os.environ, RT_JOBS="1", RT_CUT="0")
-        ran = subprocess.run(["rt", "check", crate], cwd=self.folder, env=settings, stdout=subprocess.PIPE,
+        ran = subprocess.run(["rt", "check", "--jobs", "1"], cwd=self.folder / "crates" / crate, stdout=subprocess.PIPE,
                              stderr=subprocess.STDOUT, check=False)
         return ran.returncode == 0, ran.stdout.decode(errors="replace")
 
