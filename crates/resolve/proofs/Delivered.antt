@@ -1,4 +1,4 @@
--- DEMAND 3 OF WHAT IS SHIPPED: whatever `lower` lists, `resolve` answers as the landing table says. Assumes nothing.
+-- WHERE EVERY JUMP OF WHAT IS SHIPPED LANDS: whatever `lower` lists, `resolve` answers as the landing table says. Assumes nothing.
 use Prim.Native.Nat.{ℕ, suc, ◌+◌, ◌≤◌}
 use mathlib.Core.Path.{◌≡◌, refl, ap, sym, ◌∙◌}
 use mathlib.Core.Bool.{Bool, true, false, cond, ◌&&◌}

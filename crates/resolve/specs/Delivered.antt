@@ -1,4 +1,4 @@
--- What lowering and resolving deliver together, named by their definitions alone: demand 3 of what is shipped.
+-- What lowering and resolving deliver together, named by their definitions alone: where every jump of what is shipped lands.
 use Rattle.std.specs.Prelude.{ℕ, Bool, true, false, cond, ◌&&◌, List, ◌⊎◌, ◌≡◌, leb, length, take}
 use Rattle.std.proofs.Math.Option.{none, some}
 use Rattle.definitions.specs.Answer.{ok, made}

@@ -43,10 +43,6 @@ pub paid : (left left' k : ℕ) (r : Bool) → (r ≡ leb k left) × (left' ≡ 
 paid left left' k true e q = omega (arith, leb-true k left (sym e.0), e.1)
 paid left left' k false e q = absurd (true≢false (sym q))
 
--- where the code tests that it was not refused
-pub went : (left left' k : ℕ) (r : Bool) → (r ≡ leb k left) × (left' ≡ cond r (left - k) left) → r ≡ true → left' + k ≡ left
-went left left' k r e q = paid left left' k r e q
-
 -- w bytes of fields, of which the one at k is below a bound
 abbrev pub FieldsAt : (s : List ℕ) (at stop w k bound r : ℕ) → Type 0
 FieldsAt s at stop w k bound r = (r ≡ at + w) × (at + w ≤ stop) × (get_or s (at + k) 0 < bound)

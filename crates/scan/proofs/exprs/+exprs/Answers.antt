@@ -3,7 +3,7 @@ use Prim.Native.Nat.{◌+◌, ◌-◌}
 use mathlib.Core.Path.{refl}
 use mathlib.Core.Logic.{inl}
 use Rattle.scan.specs.Scanned.{Or0, BodyAt}
-use Rattle.scan.proofs.ExprLaws.{found, within, went, fields_in, first, moved, call_found, nop_found, const_found, null_found, new_found, construct_found, assign_found, field_found, index_found, conditional_found, cast_found, local_found, intrinsic_found, free_found, static_found, instance_found, closure_found, expr_found}
+use Rattle.scan.proofs.ExprLaws.{found, within, paid, fields_in, first, moved, call_found, nop_found, const_found, null_found, new_found, construct_found, assign_found, field_found, index_found, conditional_found, cast_found, local_found, intrinsic_found, free_found, static_found, instance_found, closure_found, expr_found}
 use Rattle.scan.proofs.RunLaws.{run_start, run_more, run_end, args_start, args_more, args_end}
 use Rattle.scan.proofs.exprs.+exprs.Goals as goal
 use Rattle.scan.proofs.exprs.+exprs.Goals.{scan_expr-in-1, scan_expr-in-2, scan_expr-in-3, scan_expr-in-4, scan_expr-in-11, scan_expr-in-6, scan_expr-in-8, scan_expr-in-10, scan_expr-in_default, scan_field-then-form-gt0+else-not-pay+else-not-pay-2, scan_field-else-form-gt0}
@@ -15,13 +15,13 @@ pub late_expr-scan_expr-requires : goal.late_expr-scan_expr-requires
 late_expr-scan_expr-requires t c = (omega (arith, c.decreases), (within c.scan_expr-b.ensures, c.requires.1))
 
 pub late_expr-returns-else-not-pay : goal.late_expr-returns-else-not-pay
-late_expr-returns-else-not-pay t c = conditional_found c.in-9.is (went _ _ _ _ c.pay.ensures c.if-not-pay.false) c.scan_expr-a.ensures c.scan_expr-b.ensures c.scan_expr.ensures
+late_expr-returns-else-not-pay t c = conditional_found c.in-9.is (paid _ _ _ _ c.pay.ensures c.if-not-pay.false) c.scan_expr-a.ensures c.scan_expr-b.ensures c.scan_expr.ensures
 
 pub late_expr-returns-in-13 : goal.late_expr-returns-in-13
 late_expr-returns-in-13 t c = free_found c.in-13.is c.scan_call.ensures
 
 pub late_expr-returns-else-not-pay-2 : goal.late_expr-returns-else-not-pay-2
-late_expr-returns-else-not-pay-2 t c = static_found c.in-14.is (went _ _ _ _ c.pay-in-14.ensures c.if-not-pay-2.false) c.scan_call-in-14.ensures
+late_expr-returns-else-not-pay-2 t c = static_found c.in-14.is (paid _ _ _ _ c.pay-in-14.ensures c.if-not-pay-2.false) c.scan_call-in-14.ensures
 
 pub scan_args-loop-next-init : goal.scan_args-loop-next-init
 scan_args-loop-next-init t c = args_start _ _ _ _ _ _ _ _ c.requires.0
@@ -33,7 +33,7 @@ pub scan_args-loop-next-preserved : goal.scan_args-loop-next-preserved
 scan_args-loop-next-preserved t c = args_more c.loop-next.invariant c.loop-next-test.true (c.before_arg.ensures c.if-not-before_arg.false) c.scan_expr-p.ensures (omega (arith, c.if-p-eq0))
 
 pub scan_args-returns : goal.scan_args-returns
-scan_args-returns t c = args_end c.loop-next.invariant c.loop-next-test.false (went _ _ _ _ c.pay.ensures c.if-not-pay.false)
+scan_args-returns t c = args_end c.loop-next.invariant c.loop-next-test.false (paid _ _ _ _ c.pay.ensures c.if-not-pay.false)
 
 pub scan_call-bounds-s-at : goal.scan_call-bounds-s-at
 scan_call-bounds-s-at t c = let f = found c.after_fields-a.ensures (omega (arith, c.if-a-eq0)) in omega (arith, f.1, c.requires.1)
@@ -55,13 +55,13 @@ scan_call-scan_args-requires t c = let f = fields_in c.after_fields-a.ensures in
 
 pub scan_call-returns : goal.scan_call-returns
 scan_call-returns t c = let f = fields_in c.after_fields-a.ensures in
-    call_found (omega (arith, c.if-at-eq0)) c.after_fields-a.ensures (omega (arith, c.if-a-eq0)) c.wide-n.ensures.0 (omega (arith, f, c.if-stop-a)) (c.marks_good.ensures c.if-not-marks_good.false) c.span_end.ensures c.if-span_end-stop.false (went _ _ _ _ c.pay.ensures c.if-not-pay.false) (went _ _ _ _ c.pay-2.ensures c.if-not-pay-2.false) c.scan_args.ensures
+    call_found (omega (arith, c.if-at-eq0)) c.after_fields-a.ensures (omega (arith, c.if-a-eq0)) c.wide-n.ensures.0 (omega (arith, f, c.if-stop-a)) (c.marks_good.ensures c.if-not-marks_good.false) c.span_end.ensures c.if-span_end-stop.false (paid _ _ _ _ c.pay.ensures c.if-not-pay.false) (paid _ _ _ _ c.pay-2.ensures c.if-not-pay-2.false) c.scan_args.ensures
 
 pub scan_closure-overflow_sub-stop : goal.scan_closure-overflow_sub-stop
 scan_closure-overflow_sub-stop t c = within c.scan_expr-a.ensures
 
 pub scan_closure-returns : goal.scan_closure-returns
-scan_closure-returns t c = let f = within c.scan_expr-a.ensures in closure_found c.requires.2 (went _ _ _ _ c.pay.ensures c.if-not-pay.false) (went _ _ _ _ c.pay-2.ensures c.if-not-pay-2.false) c.scan_expr-a.ensures (omega (arith, c.if-a-eq0)) (omega (arith, c.if-stop-a-lt6, f)) c.scan_run.ensures
+scan_closure-returns t c = let f = within c.scan_expr-a.ensures in closure_found c.requires.2 (paid _ _ _ _ c.pay.ensures c.if-not-pay.false) (paid _ _ _ _ c.pay-2.ensures c.if-not-pay-2.false) c.scan_expr-a.ensures (omega (arith, c.if-a-eq0)) (omega (arith, c.if-stop-a-lt6, f)) c.scan_run.ensures
 
 pub scan_construct-returns : goal.scan_construct-returns
 scan_construct-returns t c = construct_found c.requires.2 (omega (arith, c.if-stop-at-lt9, c.requires.0)) c.scan_run.ensures
@@ -117,7 +117,7 @@ scan_expr-returns-then-last-stop t c = let b : Or0 c.match-kind.last (BodyAt (c.
   | scan_expr-in-10 w ↦ moved w.records-is w.labels-is w.last-is (cast_found w.in-10.is w.after_fields-a-in-10.ensures w.scan_expr-last-in-10.ensures)
   | scan_expr-in_default w ↦ moved w.records-is w.labels-is w.last-is w.late_expr-last.ensures
 ] in
-    expr_found c.args.depth c.node_end-stop.ensures (omega (arith, c.if-stop-eq0)) (went _ _ _ _ c.pay.ensures c.if-not-pay.false) b c.if-last-stop.true
+    expr_found c.args.depth c.node_end-stop.ensures (omega (arith, c.if-stop-eq0)) (paid _ _ _ _ c.pay.ensures c.if-not-pay.false) b c.if-last-stop.true
 
 pub scan_field-bounds-s-at : goal.scan_field-bounds-s-at
 scan_field-bounds-s-at t c = let f = found c.after_fields-a.ensures (omega (arith, c.if-a-eq0)) in omega (arith, f.1, c.requires.1)
@@ -128,8 +128,8 @@ scan_field-scan_expr-requires t c = (omega (arith, c.decreases), (fields_in c.af
 pub scan_field-returns : goal.scan_field-returns
 scan_field-returns t c = elim c.if-form-gt0.branch [
   | scan_field-then-form-gt0+else-not-pay+else-not-pay-2 w ↦
-      let p = went _ _ _ _ w.pay.ensures w.if-not-pay.false in
-      let q = went _ _ _ _ w.pay-then-form-gt0.ensures w.if-not-pay-2.false in
+      let p = paid _ _ _ _ w.pay.ensures w.if-not-pay.false in
+      let q = paid _ _ _ _ w.pay-then-form-gt0.ensures w.if-not-pay-2.false in
       field_found 1 c.requires.2 c.after_fields-a.ensures (omega (arith, w.records-is, p, c.wide-form.ensures.0)) (omega (arith, w.labels-is, q)) (λ _. omega arith) c.scan_expr.ensures
   | scan_field-else-form-gt0 w ↦ field_found 0 c.requires.2 c.after_fields-a.ensures (omega (arith, w.if-form-gt0.false, w.records-is, c.wide-form.ensures.0)) (omega (arith, w.labels-is)) (λ h. absurd (omega (arith, h, w.if-form-gt0.false, c.wide-form.ensures.0))) c.scan_expr.ensures
 ]
@@ -144,7 +144,7 @@ pub scan_instance-scan_call-requires : goal.scan_instance-scan_call-requires
 scan_instance-scan_call-requires t c = (omega (arith, c.decreases), (within c.scan_expr-b.ensures, c.requires.1))
 
 pub scan_instance-returns : goal.scan_instance-returns
-scan_instance-returns t c = let p = went _ _ _ _ c.pay.ensures c.if-not-pay.false in instance_found c.requires.2 c.after_fields-a.ensures (omega (arith, p, c.wide.ensures.0)) (went _ _ _ _ c.pay-2.ensures c.if-not-pay-2.false) c.scan_expr-b.ensures c.scan_call.ensures
+scan_instance-returns t c = let p = paid _ _ _ _ c.pay.ensures c.if-not-pay.false in instance_found c.requires.2 c.after_fields-a.ensures (omega (arith, p, c.wide.ensures.0)) (paid _ _ _ _ c.pay-2.ensures c.if-not-pay-2.false) c.scan_expr-b.ensures c.scan_call.ensures
 
 pub scan_intrinsic-bounds-s-at : goal.scan_intrinsic-bounds-s-at
 scan_intrinsic-bounds-s-at t c = let f = found c.after_fields-a.ensures (omega (arith, c.if-a-eq0)) in omega (arith, f.1, c.requires.1)
@@ -174,7 +174,7 @@ pub scan_run-loop-next-smaller : goal.scan_run-loop-next-smaller
 scan_run-loop-next-smaller t c = let f = found c.scan_expr-p.ensures (omega (arith, c.if-p-eq0)) in omega (arith, f.place, c.loop-next-test.true)
 
 pub scan_run-loop-next-preserved : goal.scan_run-loop-next-preserved
-scan_run-loop-next-preserved t c = run_more c.loop-next.invariant c.loop-next-test.true (went _ _ _ _ c.pay.ensures c.if-not-pay.false) c.scan_expr-p.ensures (omega (arith, c.if-p-eq0))
+scan_run-loop-next-preserved t c = run_more c.loop-next.invariant c.loop-next-test.true (paid _ _ _ _ c.pay.ensures c.if-not-pay.false) c.scan_expr-p.ensures (omega (arith, c.if-p-eq0))
 
 pub scan_run-returns : goal.scan_run-returns
 scan_run-returns t c = run_end c.span_end-stop.ensures (omega (arith, c.if-stop-eq0)) c.loop-next.invariant c.loop-next-test.false

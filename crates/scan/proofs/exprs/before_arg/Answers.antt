@@ -1,6 +1,6 @@
 use mathlib.Core.Bool.{true≢false}
 use mathlib.Core.Path.{sym}
-use Rattle.scan.proofs.ExprLaws.{paid, went}
+use Rattle.scan.proofs.ExprLaws.{paid}
 use native.Mathlib.Omega.{arith}
 use Rattle.scan.proofs.exprs.before_arg.Goals as goal
 
@@ -20,5 +20,5 @@ returns c =
     record {
       there = omega (arith, c.if-n-k);
       plain = λ h. grind arith;
-      paid = (omega (arith, w, went _ _ _ _ c.pay.ensures c.if-not-pay.false), omega (arith, w, paid _ _ _ _ c.pay-2.ensures e));
+      paid = (omega (arith, w, paid _ _ _ _ c.pay.ensures c.if-not-pay.false), omega (arith, w, paid _ _ _ _ c.pay-2.ensures e));
     }

@@ -1,7 +1,7 @@
 use mathlib.Core.Path.{refl}
 use mathlib.Core.Logic.{inl, inr}
 use borrow.Author.Tests.{ltb-true}
-use Rattle.scan.proofs.ExprLaws.{found, handed, within, went, first}
+use Rattle.scan.proofs.ExprLaws.{found, handed, within, paid, first}
 use Rattle.scan.proofs.StmtLoops.{stmts_none, stmts_expr, stmts_stmt, stmts_all, arms_none, arms_one, arms_all, cased_none, cased_one, cased_all, ends_here, goes_on_here, cases_in}
 use Rattle.scan.proofs.StmtFound.{anywhere, default_found, break_found, continue_found, block_found, while_found, branches_found, branches_found_with, switch_none, switch_some}
 use native.Mathlib.Omega.{arith}
@@ -33,7 +33,7 @@ pub scan_arms-loop-next-smaller : goal.scan_arms-loop-next-smaller
 scan_arms-loop-next-smaller t c = let y = found c.scan_block-q.ensures (omega (arith, c.if-q-eq0.false)) in let x = found c.scan_expr-p.ensures y.place.0 in omega (arith, x.place.1, y.place.1, c.loop-next-test.true)
 
 pub scan_arms-loop-next-preserved : goal.scan_arms-loop-next-preserved
-scan_arms-loop-next-preserved t c = let y = found c.scan_block-q.ensures (omega (arith, c.if-q-eq0.false)) in let x = found c.scan_expr-p.ensures y.place.0 in arms_one c.loop-next.invariant c.loop-next-test.true _ _ _ _ _ _ _ _ (went _ _ _ _ c.pay.ensures c.if-not-pay.false) (went _ _ _ _ c.pay-in-loop-next.ensures c.if-not-pay-2.false) x y
+scan_arms-loop-next-preserved t c = let y = found c.scan_block-q.ensures (omega (arith, c.if-q-eq0.false)) in let x = found c.scan_expr-p.ensures y.place.0 in arms_one c.loop-next.invariant c.loop-next-test.true _ _ _ _ _ _ _ _ (paid _ _ _ _ c.pay.ensures c.if-not-pay.false) (paid _ _ _ _ c.pay-in-loop-next.ensures c.if-not-pay-2.false) x y
 
 pub scan_arms-returns : goal.scan_arms-returns
 scan_arms-returns t c = let f = found c.span_end-stop.ensures (omega (arith, c.if-stop-eq0.false)) in inr (arms_all _ _ c.loop-next.invariant c.loop-next-test.false f.0 f.1 f.2)
@@ -103,13 +103,13 @@ pub scan_branches-bounds-s-a : goal.scan_branches-bounds-s-a
 scan_branches-bounds-s-a t c = let f = found c.after_fields-b.ensures (omega (arith, c.if-b-eq0.false)) in omega (arith, f.1, c.requires.1)
 
 pub scan_branches-returns-then-s-a-eq0 : goal.scan_branches-returns-then-s-a-eq0
-scan_branches-returns-then-s-a-eq0 t c = let f = found c.after_fields-b.ensures (omega (arith, c.if-b-eq0.false)) in inr (rw f.0 (branches_found _ _ _ _ c.requires.2 (went _ _ _ _ c.pay.ensures c.if-not-pay.false) (found c.scan_arms-a.ensures (omega (arith, c.if-a-eq0.false))) f.1 c.if-s-a-eq0.true))
+scan_branches-returns-then-s-a-eq0 t c = let f = found c.after_fields-b.ensures (omega (arith, c.if-b-eq0.false)) in inr (rw f.0 (branches_found _ _ _ _ c.requires.2 (paid _ _ _ _ c.pay.ensures c.if-not-pay.false) (found c.scan_arms-a.ensures (omega (arith, c.if-a-eq0.false))) f.1 c.if-s-a-eq0.true))
 
 pub scan_branches-scan_block-requires : goal.scan_branches-scan_block-requires
 scan_branches-scan_block-requires t c = let f = found c.after_fields-b.ensures (omega (arith, c.if-b-eq0.false)) in (omega (arith, c.decreases), (omega (arith, f.0, f.1), c.requires.1))
 
 pub scan_branches-returns : goal.scan_branches-returns
-scan_branches-returns t c = let f = found c.after_fields-b.ensures (omega (arith, c.if-b-eq0.false)) in handed c.scan_block.ensures (λ y. branches_found_with _ _ _ _ c.requires.2 (went _ _ _ _ c.pay.ensures c.if-not-pay.false) (found c.scan_arms-a.ensures (omega (arith, c.if-a-eq0.false))) f.1 (omega (arith, first c.args.s.now c.scan_arms-a.result f.2, c.if-s-a-eq0.false)) (rw f.0 at y))
+scan_branches-returns t c = let f = found c.after_fields-b.ensures (omega (arith, c.if-b-eq0.false)) in handed c.scan_block.ensures (λ y. branches_found_with _ _ _ _ c.requires.2 (paid _ _ _ _ c.pay.ensures c.if-not-pay.false) (found c.scan_arms-a.ensures (omega (arith, c.if-a-eq0.false))) f.1 (omega (arith, first c.args.s.now c.scan_arms-a.result f.2, c.if-s-a-eq0.false)) (rw f.0 at y))
 
 pub scan_cases-returns-then-stop-eq0 : goal.scan_cases-returns-then-stop-eq0
 scan_cases-returns-then-stop-eq0 t c = inl refl
@@ -205,7 +205,7 @@ pub scan_switch-scan_cases-c-requires : goal.scan_switch-scan_cases-c-requires
 scan_switch-scan_cases-c-requires t c = let f = found c.after_fields-b.ensures (omega (arith, c.if-b-eq0.false)) in (omega (arith, c.decreases), (omega (arith, f.0, f.1), c.requires.1))
 
 pub scan_switch-returns-then-mark-eq0 : goal.scan_switch-returns-then-mark-eq0
-scan_switch-returns-then-mark-eq0 t c = handed c.scan_cases-c.ensures (λ y. switch_none _ _ _ _ _ c.requires.2 (went _ _ _ _ c.pay.ensures c.if-not-pay.false) (went _ _ _ _ c.pay-2.ensures c.if-not-pay-2.false) (omega (arith, c.if-stop-body-lt4.false, c.requires.0)) (found c.scan_expr-a.ensures (omega (arith, c.if-a-eq0.false))) (found c.after_fields-b.ensures (omega (arith, c.if-b-eq0.false))) c.in_switch-within.ensures c.u32_inside.ensures.0 c.wide-mark.ensures.0 y c.if-mark-eq0.true)
+scan_switch-returns-then-mark-eq0 t c = handed c.scan_cases-c.ensures (λ y. switch_none _ _ _ _ _ c.requires.2 (paid _ _ _ _ c.pay.ensures c.if-not-pay.false) (paid _ _ _ _ c.pay-2.ensures c.if-not-pay-2.false) (omega (arith, c.if-stop-body-lt4.false, c.requires.0)) (found c.scan_expr-a.ensures (omega (arith, c.if-a-eq0.false))) (found c.after_fields-b.ensures (omega (arith, c.if-b-eq0.false))) c.in_switch-within.ensures c.u32_inside.ensures.0 c.wide-mark.ensures.0 y c.if-mark-eq0.true)
 
 pub scan_switch-returns-then-not-pay-3 : goal.scan_switch-returns-then-not-pay-3
 scan_switch-returns-then-not-pay-3 t c = inl refl
@@ -214,7 +214,7 @@ pub scan_switch-scan_block-requires : goal.scan_switch-scan_block-requires
 scan_switch-scan_block-requires t c = (omega (arith, c.decreases), (cases_in c.scan_cases-c.ensures, c.requires.1))
 
 pub scan_switch-returns : goal.scan_switch-returns
-scan_switch-returns t c = handed c.scan_block.ensures (λ t. switch_some _ _ _ _ _ c.requires.2 (went _ _ _ _ c.pay.ensures c.if-not-pay.false) (went _ _ _ _ c.pay-2.ensures c.if-not-pay-2.false) (omega (arith, c.if-stop-body-lt4.false, c.requires.0)) (found c.scan_expr-a.ensures (omega (arith, c.if-a-eq0.false))) (found c.after_fields-b.ensures (omega (arith, c.if-b-eq0.false))) c.in_switch-within.ensures c.u32_inside.ensures.0 c.wide-mark.ensures.0 (found c.scan_cases-c.ensures t.place.0) c.if-mark-eq0.false (went _ _ _ _ c.pay-3.ensures c.if-not-pay-3.false) refl t)
+scan_switch-returns t c = handed c.scan_block.ensures (λ t. switch_some _ _ _ _ _ c.requires.2 (paid _ _ _ _ c.pay.ensures c.if-not-pay.false) (paid _ _ _ _ c.pay-2.ensures c.if-not-pay-2.false) (omega (arith, c.if-stop-body-lt4.false, c.requires.0)) (found c.scan_expr-a.ensures (omega (arith, c.if-a-eq0.false))) (found c.after_fields-b.ensures (omega (arith, c.if-b-eq0.false))) c.in_switch-within.ensures c.u32_inside.ensures.0 c.wide-mark.ensures.0 (found c.scan_cases-c.ensures t.place.0) c.if-mark-eq0.false (paid _ _ _ _ c.pay-3.ensures c.if-not-pay-3.false) refl t)
 
 pub scan_while-returns-then-not-pay : goal.scan_while-returns-then-not-pay
 scan_while-returns-then-not-pay t c = inl refl
@@ -226,4 +226,4 @@ pub scan_while-scan_block-requires : goal.scan_while-scan_block-requires
 scan_while-scan_block-requires t c = (omega (arith, c.decreases), (within c.scan_expr-a.ensures, c.requires.1))
 
 pub scan_while-returns : goal.scan_while-returns
-scan_while-returns t c = handed c.scan_block.ensures (λ y. while_found _ _ _ _ c.requires.2 (went _ _ _ _ c.pay.ensures c.if-not-pay.false) (went _ _ _ _ c.pay-2.ensures c.if-not-pay-2.false) (found c.scan_expr-a.ensures y.place.0) y)
+scan_while-returns t c = handed c.scan_block.ensures (λ y. while_found _ _ _ _ c.requires.2 (paid _ _ _ _ c.pay.ensures c.if-not-pay.false) (paid _ _ _ _ c.pay-2.ensures c.if-not-pay-2.false) (found c.scan_expr-a.ensures y.place.0) y)

@@ -1,6 +1,6 @@
 use mathlib.Core.Path.{sym}
 use mathlib.Core.Bool.{true≢false}
-use Rattle.scan.proofs.ExprLaws.{paid, went}
+use Rattle.scan.proofs.ExprLaws.{paid}
 use native.Mathlib.Omega.{arith}
 use Rattle.scan.proofs.stmts.pay_cases.Goals as goal
 
@@ -10,7 +10,7 @@ returns-then-not-pay c =
 
 pub returns-then-mid : goal.returns-then-mid
 returns-then-mid c =
-    λ e. rw c.if-mid.true (went _ _ _ _ c.pay.ensures c.if-not-pay.false, omega (arith, paid _ _ _ _ c.pay-then-mid.ensures e))
+    λ e. rw c.if-mid.true (paid _ _ _ _ c.pay.ensures c.if-not-pay.false, omega (arith, paid _ _ _ _ c.pay-then-mid.ensures e))
 
 pub returns-then-not-pay-2 : goal.returns-then-not-pay-2
 returns-then-not-pay-2 c =
@@ -18,4 +18,4 @@ returns-then-not-pay-2 c =
 
 pub returns : goal.returns
 returns c =
-    λ e. rw c.if-mid.false (omega (arith, went _ _ _ _ c.pay-2.ensures c.if-not-pay-2.false), omega (arith, paid _ _ _ _ c.pay-3.ensures e))
+    λ e. rw c.if-mid.false (omega (arith, paid _ _ _ _ c.pay-2.ensures c.if-not-pay-2.false), omega (arith, paid _ _ _ _ c.pay-3.ensures e))

@@ -1,4 +1,4 @@
-use Rattle.scan.proofs.ExprLaws.{handed, went}
+use Rattle.scan.proofs.ExprLaws.{handed, paid}
 use Rattle.scan.proofs.StmtFound.{array_found}
 use mathlib.Core.Path.{refl}
 use mathlib.Core.Logic.{inl}
@@ -15,7 +15,7 @@ returns-then-not-pay c =
 
 pub returns-else-not-pay : goal.returns-else-not-pay
 returns-else-not-pay c =
-    handed c.scan_run-a.ensures (λ x. array_found _ _ _ _ _ _ x c.requires.2 (omega (arith, c.requires.0, c.if-stop-body-lt8.false)) (went _ _ _ _ c.pay.ensures c.if-not-pay.false) (λ l. omega arith))
+    handed c.scan_run-a.ensures (λ x. array_found _ _ _ _ _ _ x c.requires.2 (omega (arith, c.requires.0, c.if-stop-body-lt8.false)) (paid _ _ _ _ c.pay.ensures c.if-not-pay.false) (λ l. omega arith))
 
 pub returns-else-items-lt-ITEMS : goal.returns-else-items-lt-ITEMS
 returns-else-items-lt-ITEMS c =

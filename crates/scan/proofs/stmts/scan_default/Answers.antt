@@ -1,4 +1,4 @@
-use Rattle.scan.proofs.ExprLaws.{found, went}
+use Rattle.scan.proofs.ExprLaws.{found, paid}
 use mathlib.Core.Path.{refl}
 use mathlib.Core.Logic.{inl, inr}
 use native.Mathlib.Omega.{arith}
@@ -22,4 +22,4 @@ returns-then-not-pay c =
 
 pub returns : goal.returns
 returns c =
-    let f = found c.after_fields-a.ensures (omega (arith, c.if-a-eq0.false)) in inr (f.0, f.1, f.2, rw c.default_count.ensures at (went _ _ _ _ c.pay.ensures c.if-not-pay.false))
+    let f = found c.after_fields-a.ensures (omega (arith, c.if-a-eq0.false)) in inr (f.0, f.1, f.2, rw c.default_count.ensures at (paid _ _ _ _ c.pay.ensures c.if-not-pay.false))

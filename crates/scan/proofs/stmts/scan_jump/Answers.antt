@@ -1,4 +1,4 @@
-use Rattle.scan.proofs.ExprLaws.{went}
+use Rattle.scan.proofs.ExprLaws.{paid}
 use mathlib.Core.Path.{refl}
 use mathlib.Core.Logic.{inl, inr}
 use Rattle.scan.proofs.stmts.scan_jump.Goals as goal
@@ -11,4 +11,4 @@ returns-then-not-pay c = inl refl
 
 pub returns : goal.returns
 returns c =
-    inr (refl, c.if-not-stands.false, went _ _ 1 _ c.pay.ensures c.if-not-pay.false)
+    inr (refl, c.if-not-stands.false, paid _ _ 1 _ c.pay.ensures c.if-not-pay.false)
