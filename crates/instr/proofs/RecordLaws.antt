@@ -6,19 +6,19 @@ use mathlib.Core.List.{List, [], ◌∷◌, ◌++◌, map, append_assoc}
 use native.Mathlib.Omega.{arith}
 use native.Mathlib.Nat.{add-zero}
 use native.Mathlib.Numerals.{add-one}
-use lib.Dec.{leb, eqb, leb→le, lit<}
+use lib.Dec.{leb, ltb, eqb, leb→le, lit<}
 use lib.ListN.{length, get_or, take, drop, length-append, drop_of_length-le, get_or-map}
 use lib.Seq.{take_at, drop-append-add, drop-cons, drop-drop, take-add}
 use borrow.Author.Tests.{le-leb, lt-leb, eqb-true}
 use Rattle.definitions.specs.Bytes.{number, bytes}
-use Rattle.definitions.specs.Tag.{sizes, tag_size, emitted, row_of}
-use Rattle.definitions.specs.Instr.{Instr, record_length, record_bytes, record_at, good_record}
+use Rattle.definitions.specs.Tag as definitions
+use Rattle.definitions.specs.Tag.{tag_size, emitted, row_of}
+use Rattle.definitions.specs.Instr.{Instr, record_length, record_bytes, record_at, good_record, unused0}
 use Rattle.instr.specs.declared.tables.Row.{Row}
 use Rattle.instr.specs.declared.records.Field.{Field}
 use Rattle.laws.proofs.Widths.{Within}
-use Rattle.instr.specs.Values.{row_is, slot, fields_of, stored, written, good_with}
+use Rattle.instr.specs.Values.{row_is, slot, fields_of, stored, written}
 use Rattle.laws.proofs.Tables.{every, at}
-use Rattle.instr.proofs.TableLaws.{none, the_rows, the_numbers, row_numbered}
 use Rattle.instr.proofs.NumberLaws.{length_bytes, read_back, write_back}
 
 -- 1. Fields, one after the other
@@ -26,12 +26,12 @@ use Rattle.instr.proofs.NumberLaws.{length_bytes, read_back, write_back}
 -- their bytes
 abbrev field_bytes : List Field → List ℕ
 field_bytes [] = []
-field_bytes (f ∷ fs) = bytes f.1 f.2 ++ field_bytes fs
+field_bytes (f ∷ fs) = bytes f.width f.value ++ field_bytes fs
 
 -- each begins where the one before it ends: the first at `at`, and the last ends at `end`
 abbrev laid : (at end : ℕ) → List Field → Bool
 laid at end [] = eqb at end
-laid at end (f ∷ fs) = eqb f.0 at && laid (at + f.1) end fs
+laid at end (f ∷ fs) = eqb f.at at && laid (at + f.width) end fs
 
 abbrev nth : List Field → (k : ℕ) → Field
 nth fs k = get_or fs k (slot 0 0 0)
@@ -44,21 +44,21 @@ record_bytes_law i = refl
 
 -- a field is read from where it stands
 read_field : (fs : List Field) (s q p r : List ℕ) (at end k : ℕ) → s ≡ q ++ (p ++ (field_bytes fs ++ r)) → laid at end fs ≡ true → length p ≡ at → k < length fs →
-    (nth fs k).2 < 256 ^ (nth fs k).1 → number (nth fs k).1 s (length q + (nth fs k).0) ≡ (nth fs k).2
+    (nth fs k).value < 256 ^ (nth fs k).width → number (nth fs k).width s (length q + (nth fs k).at) ≡ (nth fs k).value
 read_field [] s q p r at end k e h l b v = absurd (omega arith)
 read_field (f ∷ fs) s q p r at end zero e h l b v =
-    let g = (and-eq-true_iff (eqb f.0 at) (laid (at + f.1) end fs)).0 h in
-    let a : length q + f.0 ≡ length (q ++ p) = rw (eqb-true f.0 at g.0, ← l, length-append q p) in
-    let d : s ≡ (q ++ p) ++ (bytes f.1 f.2 ++ (field_bytes fs ++ r)) = e ∙ simp append_assoc in
-    rw (a, d) (read_back f.1 f.2 (q ++ p) (field_bytes fs ++ r) v)
+    let g = (and-eq-true_iff (eqb f.at at) (laid (at + f.width) end fs)).0 h in
+    let a : length q + f.at ≡ length (q ++ p) = rw (eqb-true f.at at g.0, ← l, length-append q p) in
+    let d : s ≡ (q ++ p) ++ (bytes f.width f.value ++ (field_bytes fs ++ r)) = e ∙ simp append_assoc in
+    rw (a, d) (read_back f.width f.value (q ++ p) (field_bytes fs ++ r) v)
 read_field (f ∷ fs) s q p r at end (suc k) e h l b v =
-    let g = (and-eq-true_iff (eqb f.0 at) (laid (at + f.1) end fs)).0 h in
-    let w = bytes f.1 f.2 in
-    let m : length (p ++ w) ≡ at + f.1 = rw (length-append p w, length_bytes f.1 f.2, l) in
-    read_field fs s q (p ++ w) r (at + f.1) end k (e ∙ simp append_assoc) g.1 m (omega arith) v
+    let g = (and-eq-true_iff (eqb f.at at) (laid (at + f.width) end fs)).0 h in
+    let w = bytes f.width f.value in
+    let m : length (p ++ w) ≡ at + f.width = rw (length-append p w, length_bytes f.width f.value, l) in
+    read_field fs s q (p ++ w) r (at + f.width) end k (e ∙ simp append_assoc) g.1 m (omega arith) v
 
-back : (i : Instr) (p r : List ℕ) (k : ℕ) → k < length (fields_of i) → (nth (fields_of i) k).2 < 256 ^ (nth (fields_of i) k).1 →
-    number (nth (fields_of i) k).1 (p ++ (record_bytes i ++ r)) (length p + (nth (fields_of i) k).0) ≡ (nth (fields_of i) k).2
+back : (i : Instr) (p r : List ℕ) (k : ℕ) → k < length (fields_of i) → (nth (fields_of i) k).value < 256 ^ (nth (fields_of i) k).width →
+    number (nth (fields_of i) k).width (p ++ (record_bytes i ++ r)) (length p + (nth (fields_of i) k).at) ≡ (nth (fields_of i) k).value
 back i p r k l v = read_field (fields_of i) (p ++ (record_bytes i ++ r)) p [] r 0 record_length k (rw (record_bytes_law i)) refl refl l v
 
 -- "write then read is the record again"
@@ -80,13 +80,13 @@ write_then_read i h p r =
 -- each holds the number that stands in s at its place from `from` on
 abbrev Holds : (s : List ℕ) (from : ℕ) → List Field → Type 0
 Holds s from [] = Unit {0}
-Holds s from (f ∷ fs) = (f.2 ≡ number f.1 s (from + f.0)) × Holds s from fs
+Holds s from (f ∷ fs) = (f.value ≡ number f.width s (from + f.at)) × Holds s from fs
 
 in_order : (fs : List Field) (at end : ℕ) → laid at end fs ≡ true → at ≤ end
 in_order [] at end h = let e = eqb-true at end h in omega arith
 in_order (f ∷ fs) at end h =
-    let g = (and-eq-true_iff (eqb f.0 at) (laid (at + f.1) end fs)).0 h in
-    omega (arith, in_order fs (at + f.1) end g.1)
+    let g = (and-eq-true_iff (eqb f.at at) (laid (at + f.width) end fs)).0 h in
+    omega (arith, in_order fs (at + f.width) end g.1)
 
 -- two pieces of a list, one after the other
 pub pieces : (s : List ℕ) (at w m to n : ℕ) → at + w ≡ to → w + m ≡ n → take w (drop at s) ++ take m (drop to s) ≡ take n (drop at s)
@@ -96,10 +96,10 @@ fields_back : (fs : List Field) (s : List ℕ) (from at end : ℕ) → laid at e
     field_bytes fs ≡ take (end - at) (drop (from + at) s)
 fields_back [] s from at end h v b k = let e = eqb-true at end h in let z : end - at ≡ 0 = omega arith in rw z
 fields_back (f ∷ fs) s from at end h v b k =
-    let g = (and-eq-true_iff (eqb f.0 at) (laid (at + f.1) end fs)).0 h in
-    let o = in_order fs (at + f.1) end g.1 in
-    rw (v.0, eqb-true f.0 at g.0, write_back f.1 s (from + at) (omega arith) k, fields_back fs s from (at + f.1) end g.1 v.1 b k)
-    (pieces s (from + at) f.1 (end - (at + f.1)) (from + (at + f.1)) (end - at) (omega arith) (omega arith))
+    let g = (and-eq-true_iff (eqb f.at at) (laid (at + f.width) end fs)).0 h in
+    let o = in_order fs (at + f.width) end g.1 in
+    rw (v.0, eqb-true f.at at g.0, write_back f.width s (from + at) (omega arith) k, fields_back fs s from (at + f.width) end g.1 v.1 b k)
+    (pieces s (from + at) f.width (end - (at + f.width)) (from + (at + f.width)) (end - at) (omega arith) (omega arith))
 
 -- "read then write gives the bytes again"
 pub read_then_write : (s : List ℕ) (at : ℕ) → at + record_length ≤ length s → ((k : ℕ) → get_or s k 0 < 256) → record_bytes (record_at s at) ≡ take record_length (drop at s)
@@ -115,7 +115,7 @@ read_then_write s at h b =
 -- a part with some fields stored in it
 unfoldable pub put_all : List Field → List ℕ → List ℕ
 put_all [] s = s
-put_all (f ∷ fs) s = put_all fs (stored f.0 f.1 f.2 s)
+put_all (f ∷ fs) s = put_all fs (stored f.at f.width f.value s)
 
 pub skip : (p q : List ℕ) (at w : ℕ) → length p ≡ at → drop (at + w) (p ++ q) ≡ drop w q
 skip p q at w l = rw (← l) (drop-append-add p q w)
@@ -125,24 +125,24 @@ put_all_law : (fs : List Field) (p s : List ℕ) (at end : ℕ) → laid at end 
 unfolding put_all
 put_all_law [] p s at end h l = rw (eqb-true at end h)
 put_all_law (f ∷ fs) p s at end h l =
-    let b = bytes f.1 f.2 in
-    let g = (and-eq-true_iff (eqb f.0 at) (laid (at + f.1) end fs)).0 h in
-    let m : length (p ++ b) ≡ at + f.1 = rw (length-append p b, length_bytes f.1 f.2, l) in
-    let q : stored f.0 f.1 f.2 (p ++ drop at s) ≡ (p ++ b) ++ drop (at + f.1) s =
-    rw (eqb-true f.0 at g.0, take_at p (drop at s) at l, skip p (drop at s) at f.1 l, drop-drop f.1 at s) (sym (append_assoc p b (drop (at + f.1) s))) in
-    rw (q, put_all_law fs (p ++ b) s (at + f.1) end g.1 m) (simp append_assoc)
+    let b = bytes f.width f.value in
+    let g = (and-eq-true_iff (eqb f.at at) (laid (at + f.width) end fs)).0 h in
+    let m : length (p ++ b) ≡ at + f.width = rw (length-append p b, length_bytes f.width f.value, l) in
+    let q : stored f.at f.width f.value (p ++ drop at s) ≡ (p ++ b) ++ drop (at + f.width) s =
+    rw (eqb-true f.at at g.0, take_at p (drop at s) at l, skip p (drop at s) at f.width l, drop-drop f.width at s) (sym (append_assoc p b (drop (at + f.width) s))) in
+    rw (q, put_all_law fs (p ++ b) s (at + f.width) end g.1 m) (simp append_assoc)
 
 -- one turn of the loop over the fields of a record
 module _ (i : Instr) (fs : List Field) (e : fs ≡ fields_of i) (k : ℕ) where
   -- each ends inside the record
-  pub in_record : (nth fs k).0 + (nth fs k).1 ≤ record_length
+  pub in_record : (nth fs k).at + (nth fs k).width ≤ record_length
   unfolding every
   in_record =
-      let ends : Field → ℕ = λ f. f.0 + f.1 in
+      let ends : Field → ℕ = λ f. f.at + f.width in
       let m = get_or-map ends (fields_of i) k (slot 0 0 0) in
       rw (e, ← m) (leb→le (get_or (map ends (fields_of i)) k 0) record_length (at (λ x. leb x record_length) (map ends (fields_of i)) 0 tt tt k))
 
-  pub put_next : (s : List ℕ) {all t : List ℕ} → k < length (fields_of i) → all ≡ put_all (drop k fs) s → t ≡ stored (nth fs k).0 (nth fs k).1 (nth fs k).2 s →
+  pub put_next : (s : List ℕ) {all t : List ℕ} → k < length (fields_of i) → all ≡ put_all (drop k fs) s → t ≡ stored (nth fs k).at (nth fs k).width (nth fs k).value s →
       all ≡ put_all (drop (k + 1) fs) t
   unfolding put_all
   put_next s h a d = let l : k < length fs = rw e h in rw (a, d, add-one k, drop-cons fs k (slot 0 0 0) l)
@@ -162,11 +162,12 @@ write_none i s h = rw (lt-leb record_length (length s) h)
 
 -- 4. A good record
 
+-- by the size and the row of its tag
+unfoldable pub good_with : (size : ℕ) (row : definitions.Row) → Instr → Bool
+good_with n row i =
+    ltb 0 n && unused0 row.small i.small && unused0 row.first i.first && unused0 row.second i.second
+    && unused0 row.line i.line && unused0 row.flags i.flags && unused0 row.value i.value
+
 pub good_is : (i : Instr) {n : ℕ} {row : Row} → n ≡ tag_size i.tag → row_is row ≡ row_of i.tag → good_with n (row_is row) i ≡ good_record i
 unfolding good_with good_record emitted
 good_is i {n} {row} e r = subst (λ (m : ℕ). good_with m (row_is row) i ≡ good_record i) (sym e) (subst (λ x. good_with (tag_size i.tag) x i ≡ good_record i) (sym r) refl)
-
--- the same with the size and the row read in the tables
-pub good_in_tables : (i : Instr) → good_with (get_or sizes i.tag 0) (row_is (get_or the_rows (get_or the_numbers i.tag 0) none)) i ≡ good_record i
-unfolding tag_size
-good_in_tables i = good_is i refl (row_numbered i.tag)

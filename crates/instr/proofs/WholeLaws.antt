@@ -12,9 +12,10 @@ use Rattle.definitions.specs.Answer.{made, checked}
 use Rattle.definitions.specs.Bytes.{number, bytes}
 use Rattle.definitions.specs.Instr.{Instr, record_length, record_bytes}
 use Rattle.definitions.specs.Listing.{front_length, listing_length, listing_front, count_of, records_from, records_of, all_good, read_listing, records_bytes, listing_bytes, record_limit}
-use Rattle.instr.specs.declared.listings.Checked.TheVariants.{Good}
+use Rattle.std.specs.Prelude.{Ok}
 use Rattle.laws.proofs.Widths.{AllWithin}
-use Rattle.instr.specs.Values.{checked_is, counted, front}
+use Rattle.instr.specs.Refusals.{answer}
+use Rattle.instr.specs.Values.{counted, front}
 use Rattle.instr.proofs.NumberLaws.{length_bytes, read_back, write_back}
 use Rattle.instr.proofs.RecordLaws.{write_then_read, pieces, read_then_write}
 use Rattle.instr.proofs.ListingLaws.{front_says, whole, few, length_records, front_good_law, front_is_good}
@@ -34,8 +35,8 @@ pub record Accepted (s : List ℕ) (n : ℕ) : Type 0 where
   pub fills : listing_length n ≡ length s
   pub good : all_good (records_of s) ≡ true
 
-pub accepted : (s : List ℕ) (n : ℕ) → checked_is (Good n) ≡ counted (read_listing s) → Accepted s n
-unfolding checked_is read_listing checked
+pub accepted : (s : List ℕ) (n : ℕ) → answer (Ok n) ≡ counted (read_listing s) → Accepted s n
+unfolding answer read_listing checked
 accepted s n e =
     let q = passed (listing_front s && all_good (records_of s)) (records_of s) n e in
     let b = (and-eq-true_iff (listing_front s) (all_good (records_of s))).0 q.0 in

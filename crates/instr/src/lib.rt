@@ -4,5 +4,6 @@
 pub mod listings;
 pub mod numbers;
 pub mod records;
+pub mod refusals;
 pub mod tables;
 pub mod tag;

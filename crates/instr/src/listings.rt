@@ -1,10 +1,13 @@
 // A listing: its front, the check of all its records, and the view of one.
 ghost use Rattle.std.specs.Prelude.{◌≡◌, ◌+◌, ◌*◌, ◌≤◌, length};
+ghost use Rattle.definitions.specs.Instr.{record_length, record_at, good_record};
 ghost use Rattle.definitions.specs.Listing.{front_length, listing_length, records_from, all_good, read_listing, view, part_of};
-ghost use Rattle.instr.specs.Values.{front_fits, front_written, counted, checked_is, viewed_is, front_is};
+ghost use Rattle.instr.specs.Refusals.{answer};
+ghost use Rattle.instr.specs.Values.{front_fits, front_written, counted, front_is, viewed_is};
 
 use crate::records::Record;
-use crate::{numbers, records, tables};
+use crate::refusals::{Reason, Refusal};
+use crate::{numbers, records};
 
 // A listing begins with its version and the length of what follows.
 pub const VERSION: u8 = 1;
@@ -16,21 +19,6 @@ const LENGTH_WIDTH: usize = 4;
 pub const FRONT: usize = 5;
 
 pub const MOST_RECORDS: usize = 1048576;
-
-// A listing with so many records, or 30.
-#[derive(Clone, Copy)]
-pub enum Checked {
-    Good { count: usize },
-    Bad,
-}
-
-// Record n stands in the listing; or 30; or 22, with the number that was asked for.
-#[derive(Clone, Copy)]
-pub enum Viewed {
-    Seen,
-    Bad,
-    Past { number: usize },
-}
 
 // The front of a listing of so many records; what follows it stays. A part that is too short, or a count that no listing may have,
 // leaves the part whole, and the answer is false.
@@ -50,77 +38,60 @@ pub fn write_front(out: &mut [u8], count: u32) -> bool
 }
 
 // Version, length, a part record, too many records: the count, where the front is that of a listing.
-fn check_front(s: &[u8]) -> Checked
+fn check_front(s: &[u8]) -> Option<usize>
     ensures { result ≡ front_is s.now }
 {
-    if s.len() < FRONT {
-        return Checked::Bad;
-    }
-    if s[0] != VERSION {
-        return Checked::Bad;
+    if s.len() < FRONT || s[0] != VERSION {
+        return None;
     }
     let rest = s.len() - FRONT;
-    if numbers::u32_at(s, LENGTH_AT) != rest {
-        return Checked::Bad;
-    }
-    if rest % Record::LENGTH != 0 {
-        return Checked::Bad;
+    if numbers::u32_at(s, LENGTH_AT) != rest || rest % Record::LENGTH != 0 {
+        return None;
     }
     let count = rest / Record::LENGTH;
-    if MOST_RECORDS < count {
-        return Checked::Bad;
-    }
-    Checked::Good { count }
+    (count <= MOST_RECORDS).then_some(count)
 }
 
-// Every record from the front on, each read once. The tables are laid out once, before the first.
+// Whether a listing may hold the record that begins at a place.
+fn is_good(s: &[u8], at: usize) -> bool
+    requires { at + record_length ≤ length s.now }
+    ensures { result ≡ good_record (record_at s.now at) }
+{
+    records::good_record(records::read_inside(s, at))
+}
+
+// Every record from the front on.
 fn check_records(s: &[u8], count: usize) -> bool
     requires { listing_length count ≤ length s.now }
     ensures { result ≡ all_good (records_from count s.now front_length) }
 {
-    let sizes = tables::SIZES;
-    let rows = tables::ROWS;
-    let numbers = tables::ROW_NUMBERS;
-    let mut left = count;
-    let mut at = FRONT;
-    while 0 < left {
-        let r = records::read_inside(s, at);
-        let t = r.tag as usize;
-        let n = numbers[t] as usize;
-        if !records::good_with(r, sizes[t], rows[n]) {
+    for n in 0..count {
+        if !is_good(s, FRONT + Record::LENGTH * n) {
             return false;
         }
-        at += Record::LENGTH;
-        left -= 1;
     }
     true
 }
 
-// A whole slice as a listing.
-pub fn check_listing(s: &[u8]) -> Checked
-    ensures { checked_is result ≡ counted (read_listing s.now) }
+// A whole slice as a listing: how many records it has, or 30.
+pub fn check_listing(s: &[u8]) -> Result<usize, Refusal>
+    ensures { answer result ≡ counted (read_listing s.now) }
 {
-    let Checked::Good { count } = check_front(s) else {
-        return Checked::Bad;
-    };
-    if check_records(s, count) {
-        Checked::Good { count }
-    } else {
-        Checked::Bad
+    match check_front(s) {
+        Some(count) if check_records(s, count) => Ok(count),
+        _ => Err(Refusal::of(Reason::Listing)),
     }
 }
 
-// Whether record n of a listing can be seen.
-pub fn view_check(s: &[u8], n: usize) -> Viewed
+// Whether record n of a listing can be seen; or 30; or 22, with the number that was asked for.
+pub fn view_check(s: &[u8], n: usize) -> Result<(), Refusal>
     ensures { viewed_is result s.now n ≡ view s.now n }
 {
-    let Checked::Good { count } = check_listing(s) else {
-        return Viewed::Bad;
-    };
+    let count = check_listing(s)?;
     if n < count {
-        Viewed::Seen
+        Ok(())
     } else {
-        Viewed::Past { number: n }
+        Err(Refusal::at(Reason::Record, n))
     }
 }
 
@@ -128,10 +99,9 @@ pub fn view_check(s: &[u8], n: usize) -> Viewed
 pub fn view(s: &[u8], n: usize) -> &[u8]
     ensures { result.now ≡ part_of (view s.now n) }
 {
-    let Viewed::Seen = view_check(s, n) else {
+    if view_check(s, n).is_err() {
         return &s[0..0];
-    };
+    }
     let from = FRONT + Record::LENGTH * n;
-    let end = from + Record::LENGTH;
-    &s[from..end]
+    &s[from..from + Record::LENGTH]
 }

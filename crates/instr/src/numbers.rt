@@ -8,65 +8,67 @@ ghost use Rattle.instr.specs.Values.{stored};
 pub fn wide(b: u8) -> usize
     ensures { (result ≡ b) × (result < 256) }
 {
-    b as usize
+    usize::from(b)
 }
 
 // Whether the w bytes from `at` on are all in the slice.
 pub(crate) fn inside(s: &[u8], at: usize, w: usize) -> bool
     ensures { result ≡ leb (at + w) (length s.now) }
 {
-    if at <= s.len() {
-        return w <= s.len() - at;
-    }
-    false
+    at <= s.len() && w <= s.len() - at
 }
 
 // The byte k places after `at`. Two numbers, so that their sum need not fit.
 fn byte_after(s: &[u8], at: usize, k: usize) -> u8
     ensures { result ≡ get_or s.now (at + k) 0 }
 {
-    if at < s.len() {
-        if k < s.len() - at {
-            return s[at + k];
-        }
+    if at < s.len() && k < s.len() - at {
+        s[at + k]
+    } else {
+        0
     }
-    0
 }
 
-// The number in w bytes, k places after `at`, each byte tested singly: the plain form.
+// The number in the w bytes that begin k places after `at`, each byte tested singly: the plain form.
 pub(crate) fn number_after(s: &[u8], at: usize, k: usize, w: usize) -> u64
     requires { (k ≤ record_length) × (w ≤ 8) }
     ensures { (result ≡ number w s.now (at + k)) × (result < 256 ^ w) }
 {
     let mut v: u64 = 0;
-    let mut i = 0;
-    while i < w {
-        v = v * 256 + (wide(byte_after(s, at, k + i)) as u64);
-        i += 1;
+    for i in 0..w {
+        v = v * 256 + u64::from(byte_after(s, at, k + i));
     }
     v
 }
 
-// The fast forms, for bytes that are in the slice: the compiler makes one load of each.
-pub fn u16_inside(s: &[u8], at: usize) -> u16
-    requires { at + 2 ≤ length s.now }
-    ensures { result ≡ number 2 s.now at }
+// The fast form, for W bytes that are in the slice: the compiler makes one load of them.
+pub fn number_inside<const W: usize>(s: &[u8], at: usize) -> u64
+    requires { (at + W ≤ length s.now) × (W ≤ 8) }
+    ensures { (result ≡ number W s.now at) × (result < 256 ^ W) }
 {
-    (wide(s[at]) * 256 + wide(s[at + 1])) as u16
+    let mut v: u64 = 0;
+    for i in 0..W {
+        v = v * 256 + u64::from(s[at + i]);
+    }
+    v
 }
 
 pub fn u32_inside(s: &[u8], at: usize) -> usize
     requires { at + 4 ≤ length s.now }
     ensures { (result ≡ number 4 s.now at) × (result < 2 ^ 32) }
 {
-    ((wide(s[at]) * 256 + wide(s[at + 1])) * 256 + wide(s[at + 2])) * 256 + wide(s[at + 3])
+    number_inside::<4>(s, at) as usize
 }
 
-pub(crate) fn u64_inside(s: &[u8], at: usize) -> u64
-    requires { at + 8 ≤ length s.now }
-    ensures { result ≡ number 8 s.now at }
+// The number in the W bytes from `at` on.
+pub fn number_at<const W: usize>(s: &[u8], at: usize) -> u64
+    requires { W ≤ 8 }
+    ensures { (result ≡ number W s.now at) × (result < 256 ^ W) }
 {
-    (u32_inside(s, at) * 4294967296 + u32_inside(s, at + 4)) as u64
+    if inside(s, at, W) {
+        return number_inside::<W>(s, at);
+    }
+    number_after(s, at, 0, W)
 }
 
 // The byte at a place.
@@ -76,34 +78,23 @@ pub fn byte_at(s: &[u8], at: usize) -> u8
     byte_after(s, at, 0)
 }
 
-// The number in the two bytes from `at` on.
 pub fn u16_at(s: &[u8], at: usize) -> u16
     ensures { (result ≡ number 2 s.now at) × (result < 2 ^ 16) }
 {
-    if inside(s, at, 2) {
-        return u16_inside(s, at);
-    }
-    number_after(s, at, 0, 2) as u16
+    number_at::<2>(s, at) as u16
 }
 
-// In four bytes: a length, an index or a place, so a usize.
+// A length, an index or a place, so a usize.
 pub fn u32_at(s: &[u8], at: usize) -> usize
     ensures { (result ≡ number 4 s.now at) × (result < 2 ^ 32) }
 {
-    if inside(s, at, 4) {
-        return u32_inside(s, at);
-    }
-    number_after(s, at, 0, 4) as usize
+    number_at::<4>(s, at) as usize
 }
 
-// In eight bytes.
 pub fn u64_at(s: &[u8], at: usize) -> u64
     ensures { (result ≡ number 8 s.now at) × (result < 2 ^ 64) }
 {
-    if inside(s, at, 8) {
-        return u64_inside(s, at);
-    }
-    number_after(s, at, 0, 8)
+    number_at::<8>(s, at)
 }
 
 // A number in w bytes of a part, from `at` on: the last byte first.
@@ -112,10 +103,8 @@ pub fn put_number(part: &mut [u8], at: usize, w: usize, v: u64)
     ensures { part.new ≡ stored at w v part.old }
 {
     let mut rest = v;
-    let mut k = w;
-    while 0 < k {
-        k -= 1;
-        part[at + k] = (rest % 256) as u8;
-        rest = rest / 256;
+    for k in 0..w {
+        part[at + w - 1 - k] = (rest % 256) as u8;
+        rest /= 256;
     }
 }

@@ -1,12 +1,11 @@
 // A record of a listing, and its bytes.
 ghost use Rattle.std.specs.Prelude.{◌≡◌, ◌+◌, ◌≤◌, leb, length};
 ghost use Rattle.definitions.specs.Instr.{record_length, record_at, good_record};
-ghost use Rattle.instr.specs.Values.{row_is, instr_of, fields_of, written, good_with};
+ghost use Rattle.instr.specs.Values.{instr_of, fields_of, written};
 
-use crate::tables::Row;
 use crate::{numbers, tables};
 
-#[derive(Clone, Copy)]
+#[derive(Clone, Copy, Debug, PartialEq, Eq)]
 pub struct Record {
     pub tag: u8,
     pub small: u8,
@@ -41,21 +40,33 @@ impl Record {
 
 // A field on its way into bytes: where it begins, how many bytes it has, and what it holds.
 #[derive(Clone, Copy)]
-struct Field(usize, usize, u64);
+struct Field {
+    at: usize,
+    width: usize,
+    value: u64,
+}
+
+impl Field {
+    fn new(at: usize, width: usize, value: u64) -> Self
+        ensures { result ≡ record { at = at; width = width; value = value } }
+    {
+        Field { at, width, value }
+    }
+}
 
 // The fields of a record, one after the other.
 fn fields_of(r: Record) -> [Field; 8]
     ensures { result ≡ fields_of (instr_of r) }
 {
     [
-        Field(Record::TAG, 1, r.tag as u64),
-        Field(Record::SMALL, 1, r.small as u64),
-        Field(Record::FIRST, 2, r.first as u64),
-        Field(Record::SECOND, 2, r.second as u64),
-        Field(Record::LINE, 2, r.line as u64),
-        Field(Record::FLAGS, 2, r.flags as u64),
-        Field(Record::VALUE, 8, r.value),
-        Field(Record::NODE, 4, r.node as u64),
+        Field::new(Record::TAG, 1, u64::from(r.tag)),
+        Field::new(Record::SMALL, 1, u64::from(r.small)),
+        Field::new(Record::FIRST, 2, u64::from(r.first)),
+        Field::new(Record::SECOND, 2, u64::from(r.second)),
+        Field::new(Record::LINE, 2, u64::from(r.line)),
+        Field::new(Record::FLAGS, 2, u64::from(r.flags)),
+        Field::new(Record::VALUE, 8, r.value),
+        Field::new(Record::NODE, 4, u64::from(r.node)),
     ]
 }
 
@@ -66,12 +77,8 @@ pub fn write_record(part: &mut [u8], r: Record) -> bool
     if part.len() < Record::LENGTH {
         return false;
     }
-    let fields = fields_of(r);
-    let mut k: usize = 0;
-    while k < fields.len() {
-        let f = fields[k];
-        numbers::put_number(part, f.0, f.1, f.2);
-        k += 1;
+    for f in fields_of(r) {
+        numbers::put_number(part, f.at, f.width, f.value);
     }
     true
 }
@@ -100,12 +107,12 @@ pub(crate) fn read_inside(s: &[u8], at: usize) -> Record
     Record {
         tag: s[at + Record::TAG],
         small: s[at + Record::SMALL],
-        first: numbers::u16_inside(s, at + Record::FIRST),
-        second: numbers::u16_inside(s, at + Record::SECOND),
-        line: numbers::u16_inside(s, at + Record::LINE),
-        flags: numbers::u16_inside(s, at + Record::FLAGS),
-        value: numbers::u64_inside(s, at + Record::VALUE),
-        node: numbers::u32_inside(s, at + Record::NODE) as u32,
+        first: numbers::number_inside::<2>(s, at + Record::FIRST) as u16,
+        second: numbers::number_inside::<2>(s, at + Record::SECOND) as u16,
+        line: numbers::number_inside::<2>(s, at + Record::LINE) as u16,
+        flags: numbers::number_inside::<2>(s, at + Record::FLAGS) as u16,
+        value: numbers::number_inside::<8>(s, at + Record::VALUE),
+        node: numbers::number_inside::<4>(s, at + Record::NODE) as u32,
     }
 }
 
@@ -119,22 +126,17 @@ pub fn read_record(s: &[u8], at: usize) -> Record
     read_plain(s, at)
 }
 
-// A record that a listing may hold, by the size and the row of its tag. No test waits for another, so that the compiler makes no branch.
-pub(crate) fn good_with(r: Record, size: u8, row: Row) -> bool
-    ensures { result ≡ good_with size (row_is row) (instr_of r) }
+// A record that a listing may hold: a tag that the base emits, and unused fields 0. No test waits for another, so that the compiler makes
+// no branch.
+pub fn good_record(r: Record) -> bool
+    ensures { result ≡ good_record (instr_of r) }
 {
-    (0 < size)
+    let row = tables::row_of(r.tag);
+    (0 < tables::size_of(r.tag))
         & (row.small | (r.small == 0))
         & (row.first | (r.first == 0))
         & (row.second | (r.second == 0))
         & (row.line | (r.line == 0))
         & (row.flags | (r.flags == 0))
         & (row.value | (r.value == 0))
-}
-
-// A record that a listing may hold: a tag that the base emits, and unused fields 0.
-pub fn good_record(r: Record) -> bool
-    ensures { result ≡ good_record (instr_of r) }
-{
-    good_with(r, tables::size_of(r.tag), tables::row_of(r.tag))
 }

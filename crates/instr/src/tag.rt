@@ -1,155 +1,204 @@
-// The 77 tags that the base emits, by the names of instr.rs.
-
-pub const NOP: u8 = 0x00;
-
-pub const NULL: u8 = 0x01;
-
-pub const I32_ONE: u8 = 0x02;
-
-pub const I32_ZERO: u8 = 0x03;
-
-pub const I8_CONST: u8 = 0x04;
-
-pub const I16_CONST: u8 = 0x05;
-
-pub const I32_CONST: u8 = 0x06;
-
-pub const I64_CONST: u8 = 0x07;
-
-pub const U8_CONST: u8 = 0x08;
-
-pub const U16_CONST: u8 = 0x09;
-
-pub const U32_CONST: u8 = 0x0A;
-
-pub const U64_CONST: u8 = 0x0B;
-
-pub const F32_CONST: u8 = 0x0C;
-
-pub const F64_CONST: u8 = 0x0D;
-
-pub const CNAME_CONST: u8 = 0x0E;
-
-pub const ENUM_CONST: u8 = 0x0F;
-
-pub const STRING_CONST: u8 = 0x10;
-
-pub const TWEAK_DB_ID_CONST: u8 = 0x11;
-
-pub const RESOURCE_CONST: u8 = 0x12;
-
-pub const TRUE_CONST: u8 = 0x13;
-
-pub const FALSE_CONST: u8 = 0x14;
-
-pub const ASSIGN: u8 = 0x16;
-
-pub const LOCAL: u8 = 0x18;
-
-pub const PARAM: u8 = 0x19;
-
-pub const OBJECT_FIELD: u8 = 0x1A;
-
-pub const SWITCH: u8 = 0x1C;
-
-pub const SWITCH_LABEL: u8 = 0x1D;
-
-pub const SWITCH_DEFAULT: u8 = 0x1E;
-
-pub const JUMP: u8 = 0x1F;
-
-pub const JUMP_IF_FALSE: u8 = 0x20;
-
-pub const SKIP: u8 = 0x21;
-
-pub const CONDITIONAL: u8 = 0x22;
-
-pub const CONSTRUCT: u8 = 0x23;
-
-pub const INVOKE_STATIC: u8 = 0x24;
-
-pub const INVOKE_VIRTUAL: u8 = 0x25;
-
-pub const PARAM_END: u8 = 0x26;
-
-pub const RETURN: u8 = 0x27;
-
-pub const STRUCT_FIELD: u8 = 0x28;
-
-pub const CONTEXT: u8 = 0x29;
-
-pub const EQUALS: u8 = 0x2A;
-
-pub const NOT_EQUALS: u8 = 0x2D;
-
-pub const NEW: u8 = 0x30;
-
-pub const THIS: u8 = 0x32;
-
-pub const ARRAY_CLEAR: u8 = 0x34;
-
-pub const ARRAY_SIZE: u8 = 0x35;
-
-pub const ARRAY_RESIZE: u8 = 0x36;
-
-pub const ARRAY_FIND_FIRST: u8 = 0x37;
-
-pub const ARRAY_FIND_LAST: u8 = 0x39;
-
-pub const ARRAY_CONTAINS: u8 = 0x3B;
-
-pub const ARRAY_COUNT: u8 = 0x3D;
-
-pub const ARRAY_PUSH: u8 = 0x3F;
-
-pub const ARRAY_POP: u8 = 0x40;
-
-pub const ARRAY_INSERT: u8 = 0x41;
-
-pub const ARRAY_REMOVE: u8 = 0x42;
-
-pub const ARRAY_GROW: u8 = 0x44;
-
-pub const ARRAY_ERASE: u8 = 0x45;
-
-pub const ARRAY_LAST: u8 = 0x47;
-
-pub const ARRAY_ELEMENT: u8 = 0x48;
-
-pub const ARRAY_SORT: u8 = 0x49;
-
-pub const ARRAY_SORT_BY_PREDICATE: u8 = 0x4A;
-
-pub const STATIC_ARRAY_ELEMENT: u8 = 0x55;
-
-pub const REF_TO_BOOL: u8 = 0x56;
-
-pub const ENUM_TO_I32: u8 = 0x58;
-
-pub const I32_TO_ENUM: u8 = 0x59;
-
-pub const DYNAMIC_CAST: u8 = 0x5A;
-
-pub const TO_STRING: u8 = 0x5B;
-
-pub const TO_VARIANT: u8 = 0x5C;
-
-pub const FROM_VARIANT: u8 = 0x5D;
-
-pub const VARIANT_IS_DEFINED: u8 = 0x5E;
-
-pub const VARIANT_IS_REF: u8 = 0x5F;
-
-pub const VARIANT_IS_ARRAY: u8 = 0x60;
-
-pub const VARIANT_TYPE_NAME: u8 = 0x61;
-
-pub const WEAK_REF_TO_REF: u8 = 0x63;
-
-pub const REF_TO_WEAK_REF: u8 = 0x64;
-
-pub const WEAK_REF_NULL: u8 = 0x65;
-
-pub const AS_REF: u8 = 0x66;
-
-pub const DEREF: u8 = 0x67;
+// The 77 instructions that the base emits, by the names of instr.rs. Each is written as its byte.
+ghost use Rattle.std.specs.Prelude.{◌≡◌, ◌≤◌};
+ghost use Rattle.definitions.specs.Tag.{tag_size, row_of};
+ghost use Rattle.instr.specs.Values.{row_is};
+ghost use Rattle.instr.specs.Tags.{byte_of, Decodes};
+
+use crate::tables;
+use crate::tables::Row;
+
+#[derive(Clone, Copy, Debug, PartialEq, Eq)]
+pub enum Tag {
+    Nop = 0x00,
+    Null = 0x01,
+    I32One = 0x02,
+    I32Zero = 0x03,
+    I8Const = 0x04,
+    I16Const = 0x05,
+    I32Const = 0x06,
+    I64Const = 0x07,
+    U8Const = 0x08,
+    U16Const = 0x09,
+    U32Const = 0x0A,
+    U64Const = 0x0B,
+    F32Const = 0x0C,
+    F64Const = 0x0D,
+    CNameConst = 0x0E,
+    EnumConst = 0x0F,
+    StringConst = 0x10,
+    TweakDbIdConst = 0x11,
+    ResourceConst = 0x12,
+    TrueConst = 0x13,
+    FalseConst = 0x14,
+    Assign = 0x16,
+    Local = 0x18,
+    Param = 0x19,
+    ObjectField = 0x1A,
+    Switch = 0x1C,
+    SwitchLabel = 0x1D,
+    SwitchDefault = 0x1E,
+    Jump = 0x1F,
+    JumpIfFalse = 0x20,
+    Skip = 0x21,
+    Conditional = 0x22,
+    Construct = 0x23,
+    InvokeStatic = 0x24,
+    InvokeVirtual = 0x25,
+    ParamEnd = 0x26,
+    Return = 0x27,
+    StructField = 0x28,
+    Context = 0x29,
+    Equals = 0x2A,
+    NotEquals = 0x2D,
+    New = 0x30,
+    This = 0x32,
+    ArrayClear = 0x34,
+    ArraySize = 0x35,
+    ArrayResize = 0x36,
+    ArrayFindFirst = 0x37,
+    ArrayFindLast = 0x39,
+    ArrayContains = 0x3B,
+    ArrayCount = 0x3D,
+    ArrayPush = 0x3F,
+    ArrayPop = 0x40,
+    ArrayInsert = 0x41,
+    ArrayRemove = 0x42,
+    ArrayGrow = 0x44,
+    ArrayErase = 0x45,
+    ArrayLast = 0x47,
+    ArrayElement = 0x48,
+    ArraySort = 0x49,
+    ArraySortByPredicate = 0x4A,
+    StaticArrayElement = 0x55,
+    RefToBool = 0x56,
+    EnumToI32 = 0x58,
+    I32ToEnum = 0x59,
+    DynamicCast = 0x5A,
+    ToString = 0x5B,
+    ToVariant = 0x5C,
+    FromVariant = 0x5D,
+    VariantIsDefined = 0x5E,
+    VariantIsRef = 0x5F,
+    VariantIsArray = 0x60,
+    VariantTypeName = 0x61,
+    WeakRefToRef = 0x63,
+    RefToWeakRef = 0x64,
+    WeakRefNull = 0x65,
+    AsRef = 0x66,
+    Deref = 0x67,
+}
+
+impl Tag {
+    pub fn byte(self) -> u8
+        ensures { result ≡ byte_of self }
+    {
+        self as u8
+    }
+
+    // Its virtual size.
+    pub fn size(self) -> u8
+        ensures { (result ≡ tag_size (byte_of self)) × (result ≤ 17) }
+    {
+        tables::size_of(self.byte())
+    }
+
+    // The fields that it uses.
+    pub fn row(self) -> Row
+        ensures { row_is result ≡ row_of (byte_of self) }
+    {
+        tables::row_of(self.byte())
+    }
+}
+
+// A byte that the base emits for no instruction.
+#[derive(Clone, Copy, Debug, PartialEq, Eq)]
+pub struct NoTag(pub u8);
+
+impl TryFrom<u8> for Tag {
+    type Error = NoTag;
+
+    ghost try_from_gives = { Decodes };
+
+    fn try_from(byte: u8) -> Result<Self, NoTag> {
+        match byte {
+            0x00 => Ok(Tag::Nop),
+            0x01 => Ok(Tag::Null),
+            0x02 => Ok(Tag::I32One),
+            0x03 => Ok(Tag::I32Zero),
+            0x04 => Ok(Tag::I8Const),
+            0x05 => Ok(Tag::I16Const),
+            0x06 => Ok(Tag::I32Const),
+            0x07 => Ok(Tag::I64Const),
+            0x08 => Ok(Tag::U8Const),
+            0x09 => Ok(Tag::U16Const),
+            0x0A => Ok(Tag::U32Const),
+            0x0B => Ok(Tag::U64Const),
+            0x0C => Ok(Tag::F32Const),
+            0x0D => Ok(Tag::F64Const),
+            0x0E => Ok(Tag::CNameConst),
+            0x0F => Ok(Tag::EnumConst),
+            0x10 => Ok(Tag::StringConst),
+            0x11 => Ok(Tag::TweakDbIdConst),
+            0x12 => Ok(Tag::ResourceConst),
+            0x13 => Ok(Tag::TrueConst),
+            0x14 => Ok(Tag::FalseConst),
+            0x16 => Ok(Tag::Assign),
+            0x18 => Ok(Tag::Local),
+            0x19 => Ok(Tag::Param),
+            0x1A => Ok(Tag::ObjectField),
+            0x1C => Ok(Tag::Switch),
+            0x1D => Ok(Tag::SwitchLabel),
+            0x1E => Ok(Tag::SwitchDefault),
+            0x1F => Ok(Tag::Jump),
+            0x20 => Ok(Tag::JumpIfFalse),
+            0x21 => Ok(Tag::Skip),
+            0x22 => Ok(Tag::Conditional),
+            0x23 => Ok(Tag::Construct),
+            0x24 => Ok(Tag::InvokeStatic),
+            0x25 => Ok(Tag::InvokeVirtual),
+            0x26 => Ok(Tag::ParamEnd),
+            0x27 => Ok(Tag::Return),
+            0x28 => Ok(Tag::StructField),
+            0x29 => Ok(Tag::Context),
+            0x2A => Ok(Tag::Equals),
+            0x2D => Ok(Tag::NotEquals),
+            0x30 => Ok(Tag::New),
+            0x32 => Ok(Tag::This),
+            0x34 => Ok(Tag::ArrayClear),
+            0x35 => Ok(Tag::ArraySize),
+            0x36 => Ok(Tag::ArrayResize),
+            0x37 => Ok(Tag::ArrayFindFirst),
+            0x39 => Ok(Tag::ArrayFindLast),
+            0x3B => Ok(Tag::ArrayContains),
+            0x3D => Ok(Tag::ArrayCount),
+            0x3F => Ok(Tag::ArrayPush),
+            0x40 => Ok(Tag::ArrayPop),
+            0x41 => Ok(Tag::ArrayInsert),
+            0x42 => Ok(Tag::ArrayRemove),
+            0x44 => Ok(Tag::ArrayGrow),
+            0x45 => Ok(Tag::ArrayErase),
+            0x47 => Ok(Tag::ArrayLast),
+            0x48 => Ok(Tag::ArrayElement),
+            0x49 => Ok(Tag::ArraySort),
+            0x4A => Ok(Tag::ArraySortByPredicate),
+            0x55 => Ok(Tag::StaticArrayElement),
+            0x56 => Ok(Tag::RefToBool),
+            0x58 => Ok(Tag::EnumToI32),
+            0x59 => Ok(Tag::I32ToEnum),
+            0x5A => Ok(Tag::DynamicCast),
+            0x5B => Ok(Tag::ToString),
+            0x5C => Ok(Tag::ToVariant),
+            0x5D => Ok(Tag::FromVariant),
+            0x5E => Ok(Tag::VariantIsDefined),
+            0x5F => Ok(Tag::VariantIsRef),
+            0x60 => Ok(Tag::VariantIsArray),
+            0x61 => Ok(Tag::VariantTypeName),
+            0x63 => Ok(Tag::WeakRefToRef),
+            0x64 => Ok(Tag::RefToWeakRef),
+            0x65 => Ok(Tag::WeakRefNull),
+            0x66 => Ok(Tag::AsRef),
+            0x67 => Ok(Tag::Deref),
+            _ => Err(NoTag(byte)),
+        }
+    }
+}

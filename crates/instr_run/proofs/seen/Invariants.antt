@@ -1,9 +1,6 @@
 -- Each tag adds at most one.
-use Rattle.std.proofs.Common.{◌-◌, ◌≤◌}
+use Rattle.std.proofs.Common.{◌≤◌}
 use Rattle.instr_run.proofs.seen.Given as goal
 
-abbrev pub invariant-loop-t : goal.invariant-loop-t
-invariant-loop-t l = (l.t ≤ 256) × (l.n ≤ l.t)
-
-abbrev pub decreases-loop-t : goal.decreases-loop-t
-decreases-loop-t l = 256 - l.t
+abbrev pub invariant-loop-tag : goal.invariant-loop-tag
+invariant-loop-tag l = l.n ≤ l.tag

@@ -1,41 +1,24 @@
 -- What is left to check decides as all records do.
-use mathlib.Core.Path.{refl, sym, ◌∙◌}
-use Rattle.definitions.specs.Tag.{sizes, rows}
-use Rattle.instr.specs.Values.{instr_of}
-use Rattle.instr.proofs.TableLaws.{the_rows, the_numbers, few}
-use Rattle.instr.proofs.RecordLaws.{good_in_tables}
-use Rattle.instr.proofs.ListingLaws.{bad_at, good_at, records_end}
+use Prim.Native.Nat.{◌+◌, ◌-◌, ◌*◌}
+use mathlib.Core.Path.{sym, ◌∙◌}
 use native.Mathlib.Omega.{arith}
+use Rattle.definitions.specs.Instr.{record_length}
+use Rattle.definitions.specs.Listing.{front_length}
+use Rattle.instr.proofs.ListingLaws.{bad_at, good_at, records_end}
 use Rattle.instr.proofs.listings.check_records.Goals as goal
 
-pub loop-left-init : goal.loop-left-init
-loop-left-init c = (c.requires, refl)
+pub returns-then-not-is_good : goal.returns-then-not-is_good
+returns-then-not-is_good c =
+    let n = c.loop-n.n in
+    bad_at c.args.s.now (c.args.count - n) (front_length + record_length * n) (omega arith) c.loop-n.invariant c.is_good.ensures c.if-not-is_good.true
 
-pub overflow_cast-n : goal.overflow_cast-n
-unfolding the_numbers rows
-overflow_cast-n c = omega (arith, few c.read_inside-r.result.tag)
-
-pub offset_bounds-rows-n : goal.offset_bounds-rows-n
-unfolding the_numbers rows
-offset_bounds-rows-n c = omega (arith, few c.read_inside-r.result.tag)
-
-pub bounds-rows-n : goal.bounds-rows-n
-unfolding the_numbers rows
-bounds-rows-n c = few c.read_inside-r.result.tag
-
-pub returns-then-not-good_with : goal.returns-then-not-good_with
-unfolding sizes the_rows the_numbers rows
-returns-then-not-good_with c =
-    let read = c.read_inside-r in
-    let good = c.good_with.ensures ∙ good_in_tables (instr_of read.result) in
-    bad_at c.args.s.now c.loop-left.left c.loop-left.at c.loop-left-test.true c.loop-left.invariant.1 read.ensures good c.if-not-good_with.true
-
-pub loop-left-preserved : goal.loop-left-preserved
-unfolding sizes the_rows the_numbers rows
-loop-left-preserved c =
-    let read = c.read_inside-r in
-    let good = c.good_with.ensures ∙ good_in_tables (instr_of read.result) in
-    (omega arith, good_at c.args.s.now c.loop-left.left c.loop-left.at c.loop-left-test.true c.loop-left.invariant.1 read.ensures good c.if-not-good_with.false)
+pub loop-n-preserved : goal.loop-n-preserved
+loop-n-preserved c =
+    let n = c.loop-n.n in
+    let left = c.args.count - n in
+    good_at c.args.s.now left (front_length + record_length * n) (c.args.count - (n + 1)) (front_length + record_length * (n + 1)) (omega arith) (omega arith) c.loop-n.invariant c.is_good.ensures c.if-not-is_good.false
 
 pub returns : goal.returns
-returns c = records_end c.args.s.now c.loop-left.left c.loop-left.at c.loop-left-test.false ∙ sym c.loop-left.invariant.1
+returns c =
+    let n = c.loop-n.n in
+    records_end c.args.s.now (c.args.count - n) (front_length + record_length * n) (omega arith) ∙ sym c.loop-n.invariant

@@ -1,20 +1,17 @@
 -- 30 before 22.
-use mathlib.Core.Path.{ap, sym, ◌∙◌}
-use Rattle.instr.specs.Values.{checked_is}
+use Rattle.std.proofs.lemmas.Result.{err_from_is_err_and}
+use Rattle.instr.specs.Values.{viewed_is}
 use Rattle.instr.proofs.ListingLaws.{view_bad, view_seen, view_past}
 use Rattle.instr.proofs.listings.view_check.Goals as goal
 
-pub returns-in_default : goal.returns-in_default
-returns-in_default c =
-    let a = c.args in
-    view_bad a.s.now a.n (ap checked_is (sym c.in_default.is) ∙ c.check_listing.ensures)
+pub returns-in_err-count : goal.returns-in_err-count
+returns-in_err-count c =
+    let p = err_from_is_err_and c.from_residual.result c.from_residual.ensures.1 in
+    rw (p.1, p.2) (view_bad c.args.s.now c.args.n c.in_err-count.field-0.0 c.in_err-count.ensures)
 
 pub returns-then-n-count : goal.returns-then-n-count
-returns-then-n-count c =
-    let a = c.args in
-    view_seen a.s.now a.n c.in-Good.count (ap checked_is (sym c.in-Good.is) ∙ c.check_listing.ensures) c.if-n-count.true
+returns-then-n-count c = view_seen c.args.s.now c.args.n c.in_ok-count.count c.in_ok-count.ensures c.if-n-count.true
 
 pub returns-else-n-count : goal.returns-else-n-count
-returns-else-n-count c =
-    let a = c.args in
-    view_past a.s.now a.n c.in-Good.count (ap checked_is (sym c.in-Good.is) ∙ c.check_listing.ensures) c.if-n-count.false
+unfolding viewed_is
+returns-else-n-count c = rw c.at.ensures (view_past c.args.s.now c.args.n c.in_ok-count.count c.in_ok-count.ensures c.if-n-count.false)

@@ -1,11 +1,8 @@
 -- After i turns the value is the number in i bytes, and fits them.
-use Prim.Native.Nat.{◌+◌, ◌-◌, ◌≤◌, ◌<◌, ◌^◌}
+use Prim.Native.Nat.{◌+◌, ◌<◌, ◌^◌}
 use mathlib.Core.Path.{◌≡◌}
 use Rattle.definitions.specs.Bytes.{number}
 use Rattle.instr.proofs.numbers.number_after.Given as goal
 
 abbrev pub invariant-loop-i : goal.invariant-loop-i
-invariant-loop-i l = (l.i ≤ l.w) × (l.v ≡ number l.i l.s (l.at + l.k)) × (l.v < 256 ^ l.i)
-
-abbrev pub decreases-loop-i : goal.decreases-loop-i
-decreases-loop-i l = l.w - l.i
+invariant-loop-i l = (l.v ≡ number l.i l.s (l.at + l.k)) × (l.v < 256 ^ l.i)
