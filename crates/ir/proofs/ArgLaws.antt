@@ -8,11 +8,8 @@ use native.Mathlib.Decide.{dec_lt}
 use native.Mathlib.Nat.{zero-add, add-zero}
 use lib.Dec.{leb, ltb, eqb}
 use lib.ListN.{length, get_or, get_or-eq_default}
-use borrow.Author.Tests.{lt-ltb, le-ltb, ltb-true, ltb-false, lt-leb, le-leb, leb-true, leb-false, eq-eqb, ne_eqb, eqb-true, eqb-false}
-use denote.Enum.Declared.{tag_of}
-use Rattle.ir.specs.contracts.Arg.{the_type as arg-type}
+use borrow.Author.Tests.{ltb-true, ltb-false, leb-true, leb-false, eqb-true, eqb-false}
 use Rattle.definitions.specs.Answer.{ok}
-use Rattle.definitions.specs.Bytes.{number}
 use Rattle.definitions.specs.Tree.{Expr, intrinsic, exprs_of, place_of}
 use Rattle.definitions.specs.Lower.{is_prvalue, one_prvalue, is_flagged}
 use Rattle.definitions.specs.Read.{Parser, ◌>>=◌, give, unknown_kind, pick, filling, as_nop, as_const, as_null, as_new_instance, as_construct, as_assign, as_field, as_index, as_conditional, as_dyn_cast, as_local, as_intrinsic, as_free_call, as_static_call, as_instance_call, as_closure_call, expr_kinds, expr_body, parse_expr}
@@ -297,91 +294,13 @@ module _ (s : List ℕ) (at depth holder next : ℕ) (e : Expr) (r : parse_expr 
       go Place h = sym (unflagged_by s at depth holder next e r (sym (ap is_as_ref h)))
       go Value h = sym (unflagged_by s at depth holder next e r (sym (ap is_as_ref h)))
 
--- 4. What the functions say
+-- 4. What the functions ask
 
-pub told : (s : List ℕ) (at : ℕ) (a : Arg) (b : Bool) → a ≡ arg_at s at → not_place a ≡ b → b ≡ prvalue_at s at
-unfolding prvalue_at
-told s at a b h k = sym k ∙ ap not_place h
-
-pub place_tag : (a : Arg) → tag_of arg-type a ≡ 1 → not_place a ≡ false
-unfolding not_place
-place_tag (AsRef f t) h = impossible h
-place_tag Place h = refl
-place_tag Value h = impossible (cc)
-
-pub value_tag : (a : Arg) → tag_of arg-type a ≡ 2 → not_place a ≡ true
-unfolding not_place
-value_tag (AsRef f t) h = refl
-value_tag Place h = let z : ◌≡◌ {A = ℕ} 1 2 = cc in absurd (omega arith)
-value_tag Value h = refl
-
-pub as_ref_true : (a : Arg) (f t : ℕ) → a ≡ AsRef f t → not_place a ≡ true
-unfolding not_place
-as_ref_true a f t h = rw h
-
--- an argument that is no AsRef call
-pub unflagged : (s : List ℕ) (at : ℕ) (a : Arg) → a ≡ arg_at s at → ((x y : ℕ) → a ≡ AsRef x y → ⊥) → false ≡ flagged_at s at
-unfolding flagged_head
-unflagged s at (AsRef f t) h k = absurd (k f t refl)
-unflagged s at Place h k = ap (flagged_head s) h
-unflagged s at Value h k = ap (flagged_head s) h
-
--- the same at the code's values: `a` is the argument's head
-module _ (s : List ℕ) (at : ℕ) (a : Arg) (first stop : ℕ) (q : a ≡ AsRef first stop) (h : a ≡ arg_at s at) where
-  flagged_here : flagged_head s (AsRef first stop) ≡ flagged_at s at
-  flagged_here = ap (flagged_head s) (sym q ∙ h)
-
-  pub no_argument : stop ≤ first → false ≡ flagged_at s at
-  unfolding flagged_head
-  no_argument l = simp (le-ltb first stop l) at flagged_here
-
-  pub more_arguments : (v : ℕ) → v ≡ number 4 s first → first < stop → first + 4 + v < stop → false ≡ flagged_at s at
-  unfolding flagged_head
-  more_arguments v w l m = simp (lt-ltb first stop l, lt-leb stop (end_of s first) (rw w at m)) at flagged_here
-
-  pub one_argument : (v : ℕ) (b : Bool) → v ≡ number 4 s first → first < stop → stop ≤ first + 4 + v → b ≡ prvalue_at s first → b ≡ flagged_at s at
-  unfolding flagged_head
-  one_argument v b w l m t = t ∙ simp (lt-ltb first stop l, le-leb stop (end_of s first) (rw w at m)) at flagged_here
-
-  -- a call's arguments begin at most 16 bytes past the end
-  pub first_in : first < length s + 16
-  first_in = as_ref_in s at first stop (sym q ∙ h)
-
--- 5. The heads: `kind` and `code` are the bytes that the code has read
-
-pub a_place : (s : List ℕ) (at kind n : ℕ) → kind ≡ get_or s (at + 4) 0 → kind ≡ n → eqb n 12 ≡ false → place_kind n ≡ true → Place ≡ arg_at s at
-unfolding arg_at
-a_place s at kind n h e z k = let j : get_or s (at + 4) 0 ≡ n = sym h ∙ e in simp (j, k, z, arg_at)
-
-pub an_intrinsic : (s : List ℕ) (at kind : ℕ) (a : Arg) → kind ≡ get_or s (at + 4) 0 → kind ≡ 12 → a ≡ intrinsic_at s at → a ≡ arg_at s at
-unfolding arg_at
-an_intrinsic s at kind a h k e = let j : get_or s (at + 4) 0 ≡ 12 = sym h ∙ k in simp (j, arg_at) e
-
-pub a_value : (s : List ℕ) (at kind : ℕ) → kind ≡ get_or s (at + 4) 0 → (kind ≡ 7 → ⊥) → (kind ≡ 8 → ⊥) → (kind ≡ 11 → ⊥) → (kind ≡ 12 → ⊥) → Value ≡ arg_at s at
-unfolding arg_at place_kind
-a_value s at kind h k₇ k₈ k₁₁ k₁₂ =
-    simp (ne_eqb (get_or s (at + 4) 0) 7 (λ z. k₇ (h ∙ z)), ne_eqb (get_or s (at + 4) 0) 8 (λ z. k₈ (h ∙ z)), ne_eqb (get_or s (at + 4) 0) 11 (λ z. k₁₁ (h ∙ z)), ne_eqb (get_or s (at + 4) 0) 12 (λ z. k₁₂ (h ∙ z)), arg_at, place_kind)
+-- a call's arguments begin at most 16 bytes past the end
+pub first_in : (s : List ℕ) (at : ℕ) (a : Arg) (first stop : ℕ) → a ≡ AsRef first stop → a ≡ arg_at s at → first < length s + 16
+first_in s at a first stop q h = as_ref_in s at first stop (sym q ∙ h)
 
 -- past the end stand zeros
 pub past_value : (s : List ℕ) (at : ℕ) → length s ≤ at → Value ≡ arg_at s at
-past_value s at h =
-    let z : get_or s (at + 4) 0 ≡ 0 = get_or-eq_default s 0 (omega arith) in
-    a_value s at 0 (sym z) (omega arith) (omega arith) (omega arith) (omega arith)
-
-pub an_as_ref : (s : List ℕ) (at code v : ℕ) → code ≡ get_or s (at + 5) 0 → code ≡ 28 → v ≡ number 4 s (at + 12) → AsRef (at + 16) (at + 16 + v) ≡ intrinsic_at s at
-unfolding intrinsic_at
-an_as_ref s at code v h k e =
-    let j : get_or s (at + 5) 0 ≡ 28 = sym h ∙ k in
-    let i : at + 16 + v ≡ end_of s (at + 12) = omega arith in
-    simp (j, intrinsic_at) (ap (AsRef (at + 16)) i)
-
-pub a_deref : (s : List ℕ) (at code : ℕ) → code ≡ get_or s (at + 5) 0 → code ≡ 29 → Place ≡ intrinsic_at s at
-unfolding intrinsic_at
-a_deref s at code h k =
-    let j : get_or s (at + 5) 0 ≡ 29 = sym h ∙ k in
-    let n : get_or s (at + 5) 0 ≡ 28 → ⊥ = omega arith in
-    simp (ne_eqb (get_or s (at + 5) 0) 28 n, eq-eqb (get_or s (at + 5) 0) 29 j, intrinsic_at)
-
-pub another_code : (s : List ℕ) (at code : ℕ) → code ≡ get_or s (at + 5) 0 → (code ≡ 28 → ⊥) → (code ≡ 29 → ⊥) → Value ≡ intrinsic_at s at
-unfolding intrinsic_at
-another_code s at code h k₈ k₉ = simp (ne_eqb (get_or s (at + 5) 0) 28 (λ z. k₈ (h ∙ z)), ne_eqb (get_or s (at + 5) 0) 29 (λ z. k₉ (h ∙ z)), intrinsic_at)
+unfolding arg_at place_kind
+past_value s at h = let z : get_or s (at + 4) 0 ≡ 0 = get_or-eq_default s 0 (omega arith) in grind (arith, z)

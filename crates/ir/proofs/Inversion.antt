@@ -265,6 +265,18 @@ module _ {A : Type 0} (p : ℕ → Parser A) (stop : ℕ) (moves : (at : ℕ) (x
       let z : items (p stop) (stop - at) stop k ≡ ok ys n = rw f at q in
       items_on (p stop) (stop - at) stop at l ∙ ap (λ (y : Answer A). bind y (items_of (p stop) (stop - at) stop)) e ∙ ap (λ (y : Answer (List A)). bind y (λ ys. ok (x ∷ ys))) z
 
+  -- whatever the first item comes to
+  pub fill_step : (at : ℕ) → at < stop → filling p stop at ≡ bind (p stop at) (λ x k. bind (filling p stop k) (λ xs. ok (x ∷ xs)))
+  unfolding filling bind
+  fill_step at l = items_on (p stop) (stop - at) stop at l ∙ go (p stop at) refl
+    where
+      go : (x : Answer A) → p stop at ≡ x → bind x (items_of (p stop) (stop - at) stop) ≡ bind x (λ x k. bind (filling p stop k) (λ xs. ok (x ∷ xs)))
+      go (ok a k) e =
+          let f : suc (stop - at - 1) ≡ stop - at = omega arith in
+          let q : items (p stop) (suc (stop - at - 1)) stop k ≡ filling p stop k = fuel_same (stop - at - 1) (stop - k) k (omega (arith, moves at a k e)) (omega arith) in
+          ap (λ (y : Answer (List A)). bind y (λ xs. ok (a ∷ xs))) (rw f at q)
+      go (refused n q x) e = refl
+
 pub expr_moves : (d : ℕ) (s : List ℕ) (stop at : ℕ) (x : Expr) (n : ℕ) → parse_expr d s stop at ≡ ok x n → at < n
 expr_moves d s stop at x n e = let i = expr_at d s stop at e in omega (arith, i.head)
 

@@ -11,7 +11,7 @@ use Rattle.definitions.specs.Bytes.{number}
 use Rattle.definitions.specs.Tree.{Script, block_of}
 use Rattle.definitions.specs.Read.{front_good, parse_stmt, parse_unit, unit_limit, depth_limit}
 use Rattle.ir.specs.Places.{end_of, UnitAt}
-use Rattle.ir.proofs.Laws.{impossible}
+use Rattle.laws.proofs.Inversion.{impossible}
 use Rattle.ir.proofs.Inversion.{when_ok, run_ok, ended_ok}
 
 all_five : (a b c d e : Bool) → a && b && c && d && e ≡ true → (b ≡ true) × (e ≡ true)

@@ -1,266 +1,164 @@
-// The fields of a node, a function for each form. Each starts where the reader stands and leaves it after the field.
-ghost use Rattle.std.specs.Prelude.{◌≡◌, ℕ, ◌≤◌, length};
-ghost use Rattle.definitions.specs.Read.{unsigned, byte_below, mark_bytes, payload, as_const, as_init_default, callee, span, ended, unknown_kind, head};
-ghost use Rattle.ir.specs.Verdict.{after, number_after, counted_after, headed, cursor_of, value_of, number_of, params_of, closing};
+// A part of a unit, and the fields of a node, a method for each form. Each starts at a position and answers the position after the field.
+ghost use Rattle.std.specs.Prelude.{◌≤◌, length};
 
 use super::expr::{CONST_BOOL, const_width};
-use super::{Head, Number, Read, Refusal};
-use instr::numbers::{u32_at, wide};
+use instr::numbers::u32_at;
+use instr::refusals::{Reason, Refusal};
 
-// Where the reader stands after a number.
-pub fn cursor_of(n: Number) -> Read
-    ensures { result ≡ cursor_of n }
-{
-    match n {
-        Number::Is {
-            value: _value,
-            next,
-        } => Read::At(next),
-        Number::Not(q) => Read::Refused(q),
-    }
+// A node or a run: where it begins and where it ends, which is where what it holds must end.
+#[derive(Clone, Copy)]
+pub struct Part<'a> {
+    pub unit: &'a [u8],
+    pub place: usize,
+    pub end: usize,
+    ghost inside: { end ≤ length unit.now },
 }
 
-// The number; 0 where there is none, since then nothing more is read.
-pub fn value_of(n: Number) -> usize
-    ensures { result ≡ value_of n }
-{
-    match n {
-        Number::Is { value, next: _next } => value,
-        Number::Not(_q) => 0,
-    }
-}
+#[tactic(auto, using(crate::proofs::Inversion::one_byte), unfolding(definitions::specs::Answer::bind, crate::proofs::Laws::and_then, definitions::specs::Read::unsigned, definitions::specs::Read::byte_below, definitions::specs::Read::mark_bytes, definitions::specs::Read::payload, definitions::specs::Read::as_const, definitions::specs::Read::as_local, definitions::specs::Read::as_init_default, definitions::specs::Read::callee, definitions::specs::Read::room, definitions::specs::Read::span, definitions::specs::Read::ended, definitions::specs::Read::give, crate::specs::Verdict::closing))]
+impl<'a> Part<'a> {
+    ghost use Rattle.std.specs.Prelude.{◌≡◌, IfOk};
+    ghost use Rattle.definitions.specs.Read.{unsigned, byte_below, mark_byte, mark_bytes, as_const, as_init_default, as_local, callee, span, ended};
+    ghost use Rattle.ir.specs.Verdict.{end_answer, answer, map_value, no_value, params_of, mark_of, closing};
 
-// A number that goes with where the reader stands.
-fn number_of(from: Read, value: usize) -> Number
-    ensures { result ≡ number_of from value }
-{
-    match from {
-        Read::Refused(q) => Number::Not(q),
-        Read::At(next) => Number::Is { value, next },
-    }
-}
-
-// A field of w bytes whose value may be any.
-pub fn skip(s: &[u8], from: Read, node: usize, end: usize, w: usize) -> Read
-    ensures { result ≡ after from (unsigned s.now node end w) }
-{
-    match from {
-        Read::Refused(q) => Read::Refused(q),
-        Read::At(at) => {
-            if at <= end {
-                if w <= end - at {
-                    return Read::At(at + w);
-                }
-            }
-            Read::Refused(Refusal {
-                number: 3,
-                place: node,
-                extra: 0,
-            })
+    // A field of w bytes whose value may be any.
+    pub fn skip(self, at: usize, w: usize) -> Result<usize, Refusal>
+        ensures { end_answer result ≡ no_value (unsigned self.entry.unit.now self.entry.place self.entry.end w at) }
+    {
+        if at <= self.end && w <= self.end - at {
+            return Ok(at + w);
         }
+        Err(Refusal::at(Reason::Length, self.place))
     }
-}
 
-// A field of four bytes, with its value.
-fn u32_field(s: &[u8], at: usize, node: usize, end: usize) -> Number
-    requires { end ≤ length s.now }
-    ensures { result ≡ number_after (Read.At at) (unsigned s.now node end 4) }
-{
-    match skip(s, Read::At(at), node, end, 4) {
-        Read::Refused(q) => Number::Not(q),
-        Read::At(next) => Number::Is {
-            value: u32_at(s, at),
-            next,
-        },
+    // A field of four bytes, with its value.
+    fn u32(self, at: usize) -> Result<(usize, usize), Refusal>
+        ensures { answer result ≡ unsigned self.entry.unit.now self.entry.place self.entry.end 4 at }
+    {
+        let next = self.skip(at, 4)?;
+        Ok((u32_at(self.unit, at), next))
     }
-}
 
-// A field of one byte, with its value.
-fn byte_field(s: &[u8], from: Read, node: usize, end: usize) -> Number
-    requires { end ≤ length s.now }
-    ensures { result ≡ number_after from (unsigned s.now node end 1) }
-{
-    match from {
-        Read::Refused(q) => Number::Not(q),
-        Read::At(at) => match skip(s, Read::At(at), node, end, 1) {
-            Read::Refused(q) => Number::Not(q),
-            Read::At(next) => Number::Is {
-                value: wide(s[at]),
-                next,
-            },
-        },
+    // A field of one byte, with its value.
+    pub fn byte(self, at: usize) -> Result<(u8, usize), Refusal>
+        ensures { answer result ≡ unsigned self.entry.unit.now self.entry.place self.entry.end 1 at }
+    {
+        let next = self.skip(at, 1)?;
+        Ok((self.unit[at], next))
     }
-}
 
-// A field of one byte that is below `bound`, with its value.
-pub fn byte_below(s: &[u8], from: Read, node: usize, end: usize, bound: usize) -> Number
-    requires { end ≤ length s.now }
-    ensures { result ≡ number_after from (byte_below s.now node end bound) }
-{
-    match from {
-        Read::Refused(q) => Number::Not(q),
-        Read::At(at) => match byte_field(s, Read::At(at), node, end) {
-            Number::Not(q) => Number::Not(q),
-            Number::Is { value, next } => {
-                if value < bound {
-                    return Number::Is { value, next };
-                }
-                Number::Not(Refusal {
-                    number: 2,
-                    place: node,
-                    extra: 0,
-                })
-            }
-        },
-    }
-}
-
-// A field of one byte that is below `bound`.
-pub fn skip_below(s: &[u8], from: Read, node: usize, end: usize, bound: usize) -> Read
-    requires { end ≤ length s.now }
-    ensures { result ≡ after from (byte_below s.now node end bound) }
-{
-    cursor_of(byte_below(s, from, node, end, bound))
-}
-
-// n marks.
-fn skip_marks(s: &[u8], from: Read, node: usize, end: usize, n: usize) -> Read
-    requires { end ≤ length s.now }
-    ensures { result ≡ after from (mark_bytes s.now node end n) }
-{
-    let mut to = from;
-    let mut left = n;
-    while 0 < left {
-        to = skip_below(s, to, node, end, 2);
-        left -= 1;
-    }
-    to
-}
-
-// The payload of a const byte: a mark for Bool (15), else a value of its width.
-fn skip_payload(s: &[u8], from: Read, node: usize, end: usize, byte: usize) -> Read
-    requires { end ≤ length s.now }
-    ensures { result ≡ after from (payload s.now node end byte) }
-{
-    if byte == CONST_BOOL {
-        return skip_below(s, from, node, end, 2);
-    }
-    skip(s, from, node, end, const_width(byte))
-}
-
-// A constant: its byte and its payload.
-pub fn skip_const(s: &[u8], from: Read, node: usize, end: usize) -> Read
-    requires { end ≤ length s.now }
-    ensures { result ≡ after from (as_const s.now node end) }
-{
-    let byte = byte_below(s, from, node, end, 16);
-    skip_payload(s, cursor_of(byte), node, end, value_of(byte))
-}
-
-// An InitDefault: the local, its default byte and an index.
-pub fn skip_init(s: &[u8], from: Read, node: usize, end: usize) -> Read
-    requires { end ≤ length s.now }
-    ensures { result ≡ after from (as_init_default s.now node end) }
-{
-    let local = skip(s, from, node, end, 4);
-    let byte = skip_below(s, local, node, end, 23);
-    skip(s, byte, node, end, 4)
-}
-
-// What kinds 13 to 15 say of the function that they call: how many parameters it has.
-pub fn read_callee(s: &[u8], from: Read, node: usize, end: usize) -> Number
-    requires { end ≤ length s.now }
-    ensures { result ≡ counted_after params_of from (callee s.now node end) }
-{
-    let function = skip(s, from, node, end, 4);
-    let name = skip(s, function, node, end, 4);
-    let line = skip(s, name, node, end, 2);
-    let flags = skip_below(s, line, node, end, 16);
-    let params = byte_field(s, flags, node, end);
-    let n = value_of(params);
-    number_of(skip_marks(s, cursor_of(params), node, end, n), n)
-}
-
-// A length at `at`: the end of the bytes that it counts.
-pub fn span_at(s: &[u8], at: usize, end: usize) -> Number
-    requires { end ≤ length s.now }
-    ensures { result ≡ number_after (Read.At at) (span s.now end) }
-{
-    match u32_field(s, at, at, end) {
-        Number::Not(q) => Number::Not(q),
-        Number::Is { value: n, next } => match skip(s, Read::At(next), at, end, n) {
-            Read::Refused(q) => Number::Not(q),
-            Read::At(stop) => Number::Is { value: stop, next },
-        },
-    }
-}
-
-// A node's length and kind.
-pub fn head_at(s: &[u8], at: usize, end: usize) -> Head
-    requires { end ≤ length s.now }
-    ensures { result ≡ headed (head s.now end at) }
-{
-    match span_at(s, at, end) {
-        Number::Not(q) => Head::No(q),
-        Number::Is { value: stop, next } => match skip(s, Read::At(next), at, stop, 1) {
-            Read::Refused(q) => Head::No(q),
-            Read::At(body) => Head::Of {
-                kind: s[next],
-                end: stop,
-                body,
-            },
-        },
-    }
-}
-
-// The end of a node: nothing may be left.
-pub fn close_node(from: Read, node: usize, end: usize) -> Read
-    ensures { result ≡ after from (ended {A = ℕ} node end 0) }
-{
-    match from {
-        Read::Refused(q) => Read::Refused(q),
-        Read::At(at) => {
-            if at == end {
-                return Read::At(at);
-            }
-            Read::Refused(Refusal {
-                number: 3,
-                place: node,
-                extra: 0,
-            })
+    // A field of one byte that is below `bound`, with its value.
+    fn below(self, at: usize, bound: u8) -> Result<(u8, usize), Refusal>
+        ensures { answer result ≡ byte_below self.entry.unit.now self.entry.place self.entry.end bound at }
+    {
+        let (value, next) = self.byte(at)?;
+        if value < bound {
+            return Ok((value, next));
         }
+        Err(Refusal::at(Reason::Value, self.place))
     }
-}
 
-// The end of a call: nothing may be left, and there may be no more arguments than parameters.
-pub fn close_call(from: Read, node: usize, end: usize, params: usize, count: usize) -> Read
-    ensures { result ≡ after from (closing node end params count) }
-{
-    match close_node(from, node, end) {
-        Read::Refused(q) => Read::Refused(q),
-        Read::At(at) => {
-            if count <= params {
-                return Read::At(at);
-            }
-            Read::Refused(Refusal {
-                number: 5,
-                place: node,
-                extra: 0,
-            })
+    // A field of one byte that is below `bound`.
+    pub fn skip_below(self, at: usize, bound: u8) -> Result<usize, Refusal>
+        ensures { end_answer result ≡ no_value (byte_below self.entry.unit.now self.entry.place self.entry.end bound at) }
+    {
+        let (_value, next) = self.below(at, bound)?;
+        Ok(next)
+    }
+
+    // A mark: whether something is there.
+    pub fn mark(self, at: usize) -> Result<(bool, usize), Refusal>
+        ensures { map_value mark_of (answer result) ≡ mark_byte self.entry.unit.now self.entry.place self.entry.end at }
+    {
+        let (value, next) = self.below(at, 2)?;
+        Ok((value == 1, next))
+    }
+
+    // n marks.
+    fn skip_marks(self, at: usize, n: u8) -> Result<usize, Refusal>
+        ensures { end_answer result ≡ no_value (mark_bytes self.entry.unit.now self.entry.place self.entry.end n at) }
+    {
+        let mut next = at;
+        for _mark in 0..n {
+            next = self.skip_below(next, 2)?;
         }
+        Ok(next)
     }
-}
 
-// A kind that is not listed.
-pub fn refuse_kind(from: Read, node: usize) -> Read
-    ensures { result ≡ after from (unknown_kind {A = ℕ} node) }
-{
-    match from {
-        Read::Refused(q) => Read::Refused(q),
-        Read::At(_at) => Read::Refused(Refusal {
-            number: 2,
-            place: node,
-            extra: 0,
-        }),
+    // A constant: its byte, and then a mark for Bool, else a value of its width.
+    pub fn constant(self, at: usize) -> Result<usize, Refusal>
+        ensures { end_answer result ≡ no_value (as_const self.entry.unit.now self.entry.place self.entry.end at) }
+    {
+        let (byte, value) = self.below(at, 16)?;
+        let byte = usize::from(byte);
+        if byte == CONST_BOOL {
+            return self.skip_below(value, 2);
+        }
+        self.skip(value, const_width(byte))
+    }
+
+    // A local or a capture: its form and its index.
+    pub fn local(self, at: usize) -> Result<usize, Refusal>
+        ensures { end_answer result ≡ no_value (as_local self.entry.unit.now self.entry.place self.entry.end at) }
+    {
+        let form = self.skip_below(at, 4)?;
+        self.skip(form, 4)
+    }
+
+    // An InitDefault: the local, its default byte and an index.
+    pub fn init_default(self, at: usize) -> Result<usize, Refusal>
+        ensures { end_answer result ≡ no_value (as_init_default self.entry.unit.now self.entry.place self.entry.end at) }
+    {
+        let local = self.skip(at, 4)?;
+        let byte = self.skip_below(local, 23)?;
+        self.skip(byte, 4)
+    }
+
+    // What kinds 13 to 15 say of the function that they call: how many parameters it has.
+    pub fn callee(self, at: usize) -> Result<(u8, usize), Refusal>
+        ensures { answer result ≡ map_value params_of (callee self.entry.unit.now self.entry.place self.entry.end at) }
+    {
+        let function = self.skip(at, 4)?;
+        let name = self.skip(function, 4)?;
+        let line = self.skip(name, 2)?;
+        let flags = self.skip_below(line, 16)?;
+        let (params, marks) = self.byte(flags)?;
+        let next = self.skip_marks(marks, params)?;
+        Ok((params, next))
+    }
+
+    // The part in this one that begins at `at` with its length, and where what the length counts begins. A refusal is at its place.
+    pub fn part(self, at: usize) -> Result<(Part<'a>, usize), Refusal>
+        ensures ends { map_value (λ part. part.end) (answer result) ≡ span self.entry.unit.now self.entry.end at }
+        ensures stands { IfOk result (λ r. (r.0.unit ≡ self.entry.unit) × (r.0.place ≡ at)) }
+    {
+        let mut part = Part {
+            unit: self.unit,
+            place: at,
+            end: self.end,
+        };
+        let (n, first) = part.u32(at)?;
+        part.end = part.skip(first, n)?;
+        Ok((part, first))
+    }
+
+    // The end of a node: nothing may be left.
+    pub fn close(self, at: usize) -> Result<usize, Refusal>
+        ensures { end_answer result ≡ ended self.entry.place self.entry.end tt at }
+    {
+        if at == self.end {
+            return Ok(at);
+        }
+        Err(Refusal::at(Reason::Length, self.place))
+    }
+
+    // The end of a call: nothing may be left, and there may be no more arguments than parameters.
+    pub fn close_call(self, at: usize, params: usize, count: usize) -> Result<usize, Refusal>
+        ensures { end_answer result ≡ no_value (closing self.entry.place self.entry.end params count at) }
+    {
+        let end = self.close(at)?;
+        if count <= params {
+            return Ok(end);
+        }
+        Err(Refusal::at(Reason::Arguments, self.place))
     }
 }

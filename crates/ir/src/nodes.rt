@@ -1,277 +1,241 @@
-// Nodes, runs and what a kind asks: one cycle of calls. Every child goes through `read_node`, where the depth that is left falls.
-ghost use Rattle.std.specs.Prelude.{◌≡◌, ◌≤◌, ◌<◌, length};
-ghost use Rattle.definitions.specs.Read.{run, filling, block_if, return_if, parse_expr, parse_stmt};
-ghost use Rattle.ir.specs.Class.{node_of, kind_of, item_of};
-ghost use Rattle.ir.specs.Verdict.{after, counted_after, calling};
-ghost use Rattle.ir.specs.declared.Class.TheVariants.{Statement, Expression};
+// Nodes, runs and what a kind asks: one cycle of calls. Every child goes through `node`, where the depth that is left falls.
+use super::expr::ExprKind;
+use super::fields::Part;
+use super::stmt::StmtKind;
+use super::{Class, Item};
+use instr::refusals::{Reason, Refusal};
 
-use super::fields::{
-    byte_below, close_call, close_node, cursor_of, head_at, read_callee, refuse_kind, skip,
-    skip_below, skip_const, skip_init, span_at, value_of,
-};
-use super::{Class, Head, Item, Number, Read, Refusal, expr, stmt};
+impl Part<'_> {
+    ghost use Rattle.std.specs.Prelude.{◌≡◌, length};
+    ghost use Rattle.definitions.specs.Read.{run, filling, block_if, parse_expr, parse_stmt};
+    ghost use Rattle.ir.specs.Class.{node_of, kind_of, item_of};
+    ghost use Rattle.ir.specs.Verdict.{end_answer, answer, map_value, no_value, mark_of, calling};
+    ghost use Rattle.ir.specs.declared.Class.TheVariants.{Statement, Expression};
 
-// A node of a class, in a holder that ends at `end`: its depth, its head, what its kind asks, its end.
-#[cycle(nodes)]
-pub fn read_node(s: &[u8], from: Read, end: usize, depth: usize, class: Class) -> Read
-    requires { end ≤ length s.now }
-    ensures { result ≡ after from (node_of class depth s.now end) }
-{
-    match from {
-        Read::Refused(q) => Read::Refused(q),
-        Read::At(at) => {
-            if depth == 0 {
-                return Read::Refused(Refusal {
-                    number: 4,
-                    place: at,
-                    extra: 0,
-                });
+    // A node of a class, of which this part is the holder: its depth, its length and kind, what its kind asks, its end.
+    #[tactic(auto, using(crate::proofs::NodeLaws::deep, crate::proofs::NodeLaws::node_steps, crate::proofs::NodeLaws::statement, crate::proofs::NodeLaws::expression), unfolding(definitions::specs::Answer::bind))]
+    #[cycle(nodes)]
+    fn node(self, at: usize, depth: usize, class: Class) -> Result<usize, Refusal>
+        ensures { end_answer result ≡ no_value (node_of class depth self.entry.unit.now self.entry.end at) }
+    {
+        if depth == 0 {
+            return Err(Refusal::at(Reason::Depth, at));
+        }
+        let (node, start) = self.part(at)?;
+        let (code, fields) = node.byte(start)?;
+        let last = match class {
+            Class::Statement => node.stmt_kind(code, fields, depth - 1)?,
+            Class::Expression => node.expr_kind(code, fields, depth - 1)?,
+        };
+        node.close(last)
+    }
+
+    // What the statement's kind asks, with depth for the nodes in it.
+    #[tactic(auto, unfolding(definitions::specs::Answer::bind, crate::proofs::Laws::and_then, definitions::specs::Read::give, definitions::specs::Read::stmt_body, definitions::specs::Read::stmt_kinds, definitions::specs::Read::pick, definitions::specs::Read::unknown_kind, definitions::specs::Read::as_expr, definitions::specs::Read::as_block, definitions::specs::Read::as_while, definitions::specs::Read::as_branches, definitions::specs::Read::as_switch, definitions::specs::Read::as_init_array, definitions::specs::Read::as_break, definitions::specs::Read::as_continue, definitions::specs::Read::as_return, definitions::specs::Read::return_if))]
+    #[cycle(nodes)]
+    fn stmt_kind(self, code: u8, at: usize, depth: usize) -> Result<usize, Refusal>
+        ensures { end_answer result ≡ no_value (kind_of Statement depth self.entry.unit.now code self.entry.place self.entry.end at) }
+    {
+        let Ok(kind) = StmtKind::try_from(code) else {
+            return Err(Refusal::at(Reason::Value, self.place));
+        };
+        match kind {
+            StmtKind::Expr => self.expr(at, depth),
+            StmtKind::Block => self.block(at, depth),
+            StmtKind::While => {
+                let test = self.expr(at, depth)?;
+                self.block(test, depth)
             }
-            match head_at(s, at, end) {
-                Head::No(q) => Read::Refused(q),
-                Head::Of {
-                    kind,
-                    end: stop,
-                    body,
-                } => {
-                    let fields = Read::At(body);
-                    let inner = match class {
-                        Class::Statement => stmt_kind(s, fields, at, stop, kind, depth - 1),
-                        Class::Expression => expr_kind(s, fields, at, stop, kind, depth - 1),
-                    };
-                    close_node(inner, at, stop)
+            StmtKind::Branches => {
+                let arms = self.run(at, depth, Item::Arm)?;
+                let (mark, default) = self.mark(arms)?;
+                self.default(default, depth, mark)
+            }
+            StmtKind::Switch => {
+                let typ = self.skip(at, 4)?;
+                let on = self.expr(typ, depth)?;
+                let index = self.skip(on, 4)?;
+                let (mark, cases) = self.mark(index)?;
+                let default = self.run(cases, depth, Item::Arm)?;
+                self.default(default, depth, mark)
+            }
+            StmtKind::InitArray => {
+                let local = self.skip(at, 4)?;
+                let typ = self.skip(local, 4)?;
+                self.exprs(typ, depth)
+            }
+            StmtKind::InitDefault => self.init_default(at),
+            StmtKind::Break => Ok(at),
+            StmtKind::Continue => Ok(at),
+            StmtKind::Return => {
+                let (mark, value) = self.mark(at)?;
+                if mark {
+                    return self.expr(value, depth);
                 }
+                Ok(value)
             }
         }
     }
-}
 
-// What the statement's kind asks, with depth for the nodes in it.
-#[cycle(nodes)]
-fn stmt_kind(s: &[u8], from: Read, node: usize, end: usize, kind: u8, depth: usize) -> Read
-    requires { end ≤ length s.now }
-    ensures { result ≡ after from (kind_of Statement depth s.now kind node end) }
-{
-    match kind {
-        stmt::EXPR => read_node(s, from, end, depth, Class::Expression),
-        stmt::BLOCK => read_run(s, from, end, depth, Item::Node(Class::Statement)),
-        stmt::WHILE => {
-            let test = read_node(s, from, end, depth, Class::Expression);
-            read_run(s, test, end, depth, Item::Node(Class::Statement))
-        }
-        stmt::BRANCHES => {
-            let arms = read_run(s, from, end, depth, Item::Arm);
-            let mark = byte_below(s, arms, node, end, 2);
-            read_default(s, cursor_of(mark), end, depth, value_of(mark))
-        }
-        stmt::SWITCH => {
-            let typ = skip(s, from, node, end, 4);
-            let on = read_node(s, typ, end, depth, Class::Expression);
-            let index = skip(s, on, node, end, 4);
-            let mark = byte_below(s, index, node, end, 2);
-            let cases = read_run(s, cursor_of(mark), end, depth, Item::Arm);
-            read_default(s, cases, end, depth, value_of(mark))
-        }
-        stmt::INIT_ARRAY => {
-            let local = skip(s, from, node, end, 4);
-            let typ = skip(s, local, node, end, 4);
-            read_run(s, typ, end, depth, Item::Node(Class::Expression))
-        }
-        stmt::INIT_DEFAULT => skip_init(s, from, node, end),
-        stmt::BREAK => from,
-        stmt::CONTINUE => from,
-        stmt::RETURN => {
-            let mark = byte_below(s, from, node, end, 2);
-            read_return(s, cursor_of(mark), node, end, depth, value_of(mark))
-        }
-        _ => refuse_kind(from, node),
-    }
-}
-
-// What the expression's kind asks, with depth for the nodes in it.
-#[cycle(nodes)]
-fn expr_kind(s: &[u8], from: Read, node: usize, end: usize, kind: u8, depth: usize) -> Read
-    requires { end ≤ length s.now }
-    ensures { result ≡ after from (kind_of Expression depth s.now kind node end) }
-{
-    match kind {
-        expr::NOP => from,
-        expr::CONST => skip_const(s, from, node, end),
-        expr::NULL => skip_below(s, from, node, end, 2),
-        expr::NEW_INSTANCE => skip(s, from, node, end, 4),
-        expr::CONSTRUCT => {
-            let class = skip(s, from, node, end, 4);
-            read_run(s, class, end, depth, Item::Node(Class::Expression))
-        }
-        expr::ASSIGN => {
-            let place = read_node(s, from, end, depth, Class::Expression);
-            read_node(s, place, end, depth, Class::Expression)
-        }
-        expr::FIELD => {
-            let form = skip_below(s, from, node, end, 3);
-            let field = skip(s, form, node, end, 4);
-            read_node(s, field, end, depth, Class::Expression)
-        }
-        expr::INDEX => {
-            let dynamic = skip_below(s, from, node, end, 2);
-            let typ = skip(s, dynamic, node, end, 4);
-            let array = read_node(s, typ, end, depth, Class::Expression);
-            read_node(s, array, end, depth, Class::Expression)
-        }
-        expr::CONDITIONAL => {
-            let test = read_node(s, from, end, depth, Class::Expression);
-            let then = read_node(s, test, end, depth, Class::Expression);
-            read_node(s, then, end, depth, Class::Expression)
-        }
-        0 => refuse_kind(from, node),
-        _ => late_kind(s, from, node, end, kind, depth),
-    }
-}
-
-// The same for the kinds from 10 on, most of which are calls.
-#[cycle(nodes)]
-fn late_kind(s: &[u8], from: Read, node: usize, end: usize, kind: u8, depth: usize) -> Read
-    requires { (end ≤ length s.now) × (9 < kind) }
-    ensures { result ≡ after from (kind_of Expression depth s.now kind node end) }
-{
-    match kind {
-        expr::DYN_CAST => {
-            let class = skip(s, from, node, end, 4);
-            let weak = skip_below(s, class, node, end, 2);
-            read_node(s, weak, end, depth, Class::Expression)
-        }
-        expr::LOCAL => {
-            let form = skip_below(s, from, node, end, 4);
-            skip(s, form, node, end, 4)
-        }
-        expr::INTRINSIC_CALL => {
-            let code = skip_below(s, from, node, end, 34);
-            let mark = skip_below(s, code, node, end, 2);
-            let types = skip(s, mark, node, end, 1);
-            let index = skip(s, types, node, end, 4);
-            read_run(s, index, end, depth, Item::Node(Class::Expression))
-        }
-        expr::FREE_CALL => read_call(s, from, node, end, depth),
-        expr::STATIC_CALL => read_call(s, from, node, end, depth),
-        expr::INSTANCE_CALL => {
-            let weak = skip_below(s, from, node, end, 2);
-            let on = read_node(s, weak, end, depth, Class::Expression);
-            read_call(s, on, node, end, depth)
-        }
-        expr::CLOSURE_CALL => {
-            let closure = read_node(s, from, end, depth, Class::Expression);
-            let name = skip(s, closure, node, end, 4);
-            let line = skip(s, name, node, end, 2);
-            read_run(s, line, end, depth, Item::Node(Class::Expression))
-        }
-        _ => refuse_kind(from, node),
-    }
-}
-
-// A function and the arguments that it is called with.
-#[cycle(nodes)]
-fn read_call(s: &[u8], from: Read, node: usize, end: usize, depth: usize) -> Read
-    requires { end ≤ length s.now }
-    ensures { result ≡ after from (calling s.now (parse_expr depth s.now) node end) }
-{
-    let params = read_callee(s, from, node, end);
-    let list = read_list(
-        s,
-        cursor_of(params),
-        end,
-        depth,
-        Item::Node(Class::Expression),
-    );
-    close_call(cursor_of(list), node, end, value_of(params), value_of(list))
-}
-
-// A run: its length, then items that fill it.
-#[cycle(nodes)]
-pub fn read_run(s: &[u8], from: Read, end: usize, depth: usize, item: Item) -> Read
-    requires { end ≤ length s.now }
-    ensures { result ≡ after from (run s.now end (item_of item depth s.now)) }
-{
-    cursor_of(read_list(s, from, end, depth, item))
-}
-
-// The same, with the number of items.
-#[cycle(nodes)]
-fn read_list(s: &[u8], from: Read, end: usize, depth: usize, item: Item) -> Number
-    requires { end ≤ length s.now }
-    ensures { result ≡ counted_after length from (run s.now end (item_of item depth s.now)) }
-{
-    match from {
-        Read::Refused(q) => Number::Not(q),
-        Read::At(at) => match span_at(s, at, end) {
-            Number::Not(q) => Number::Not(q),
-            Number::Is {
-                value: stop,
-                next: first,
-            } => fill_run(s, first, stop, depth, item),
-        },
-    }
-}
-
-// Items from `first` up to `stop`, and how many.
-#[cycle(nodes)]
-fn fill_run(s: &[u8], first: usize, stop: usize, depth: usize, item: Item) -> Number
-    requires { stop ≤ length s.now }
-    ensures { result ≡ counted_after length (Read.At first) (filling (item_of item depth s.now) stop) }
-{
-    let mut next = first;
-    let mut count = 0;
-    while next < stop {
-        match read_item(s, Read::At(next), stop, depth, item) {
-            Read::Refused(q) => {
-                return Number::Not(q);
+    // What the expression's kind asks, with depth for the nodes in it.
+    #[tactic(auto, unfolding(definitions::specs::Answer::bind, crate::proofs::Laws::and_then, definitions::specs::Read::give, definitions::specs::Read::expr_body, definitions::specs::Read::expr_kinds, definitions::specs::Read::pick, definitions::specs::Read::unknown_kind, definitions::specs::Read::as_nop, definitions::specs::Read::as_null, definitions::specs::Read::as_new_instance, definitions::specs::Read::as_construct, definitions::specs::Read::as_assign, definitions::specs::Read::as_field, definitions::specs::Read::as_index, definitions::specs::Read::as_conditional, definitions::specs::Read::as_dyn_cast, definitions::specs::Read::as_intrinsic, definitions::specs::Read::as_free_call, definitions::specs::Read::as_static_call, definitions::specs::Read::as_instance_call, definitions::specs::Read::as_closure_call, crate::specs::Verdict::calling))]
+    #[cycle(nodes)]
+    fn expr_kind(self, code: u8, at: usize, depth: usize) -> Result<usize, Refusal>
+        ensures { end_answer result ≡ no_value (kind_of Expression depth self.entry.unit.now code self.entry.place self.entry.end at) }
+    {
+        let Ok(kind) = ExprKind::try_from(code) else {
+            return Err(Refusal::at(Reason::Value, self.place));
+        };
+        match kind {
+            ExprKind::Nop => Ok(at),
+            ExprKind::Const => self.constant(at),
+            ExprKind::Null => self.skip_below(at, 2),
+            ExprKind::NewInstance => self.skip(at, 4),
+            ExprKind::Construct => {
+                let class = self.skip(at, 4)?;
+                self.exprs(class, depth)
             }
-            Read::At(p) => {
-                next = p;
-                count += 1;
+            ExprKind::Assign => {
+                let place = self.expr(at, depth)?;
+                self.expr(place, depth)
+            }
+            ExprKind::Field => {
+                let form = self.skip_below(at, 3)?;
+                let field = self.skip(form, 4)?;
+                self.expr(field, depth)
+            }
+            ExprKind::Index => {
+                let dynamic = self.skip_below(at, 2)?;
+                let typ = self.skip(dynamic, 4)?;
+                let array = self.expr(typ, depth)?;
+                self.expr(array, depth)
+            }
+            ExprKind::Conditional => {
+                let test = self.expr(at, depth)?;
+                let then = self.expr(test, depth)?;
+                self.expr(then, depth)
+            }
+            ExprKind::DynCast => {
+                let class = self.skip(at, 4)?;
+                let weak = self.skip_below(class, 2)?;
+                self.expr(weak, depth)
+            }
+            ExprKind::Local => self.local(at),
+            ExprKind::IntrinsicCall => {
+                let code = self.skip_below(at, 34)?;
+                let mark = self.skip_below(code, 2)?;
+                let types = self.skip(mark, 1)?;
+                let index = self.skip(types, 4)?;
+                self.exprs(index, depth)
+            }
+            ExprKind::FreeCall => self.call(at, depth),
+            ExprKind::StaticCall => self.call(at, depth),
+            ExprKind::InstanceCall => {
+                let weak = self.skip_below(at, 2)?;
+                let on = self.expr(weak, depth)?;
+                self.call(on, depth)
+            }
+            ExprKind::ClosureCall => {
+                let closure = self.expr(at, depth)?;
+                let name = self.skip(closure, 4)?;
+                let line = self.skip(name, 2)?;
+                self.exprs(line, depth)
             }
         }
     }
-    Number::Is {
-        value: count,
-        next: stop,
-    }
-}
 
-// An item of a run: a node, or an arm, which is a condition (a matcher) and a block.
-#[cycle(nodes)]
-fn read_item(s: &[u8], from: Read, end: usize, depth: usize, item: Item) -> Read
-    requires { end ≤ length s.now }
-    ensures { result ≡ after from (item_of item depth s.now end) }
-{
-    match item {
-        Item::Node(class) => read_node(s, from, end, depth, class),
-        Item::Arm => {
-            let test = read_node(s, from, end, depth, Class::Expression);
-            read_run(s, test, end, depth, Item::Node(Class::Statement))
+    // A function and the arguments that it is called with.
+    #[tactic(auto, unfolding(definitions::specs::Answer::bind, crate::proofs::Laws::and_then, definitions::specs::Read::arguments, definitions::specs::Read::ended, crate::specs::Verdict::closing, crate::specs::Verdict::calling))]
+    #[cycle(nodes)]
+    fn call(self, at: usize, depth: usize) -> Result<usize, Refusal>
+        ensures { end_answer result ≡ no_value (calling self.entry.unit.now (parse_expr depth self.entry.unit.now) self.entry.place self.entry.end at) }
+    {
+        let (params, args) = self.callee(at)?;
+        let (count, last) = self.list(args, depth, Item::Node(Class::Expression))?;
+        self.close_call(last, usize::from(params), count)
+    }
+
+    // An expression.
+    #[cycle(nodes)]
+    fn expr(self, at: usize, depth: usize) -> Result<usize, Refusal>
+        ensures { end_answer result ≡ no_value (parse_expr depth self.entry.unit.now self.entry.end at) }
+    {
+        self.node(at, depth, Class::Expression)
+    }
+
+    // Expressions, as a run.
+    #[cycle(nodes)]
+    fn exprs(self, at: usize, depth: usize) -> Result<usize, Refusal>
+        ensures { end_answer result ≡ no_value (run self.entry.unit.now self.entry.end (parse_expr depth self.entry.unit.now) at) }
+    {
+        self.run(at, depth, Item::Node(Class::Expression))
+    }
+
+    // Statements, as a run.
+    #[cycle(nodes)]
+    pub fn block(self, at: usize, depth: usize) -> Result<usize, Refusal>
+        ensures { end_answer result ≡ no_value (run self.entry.unit.now self.entry.end (parse_stmt depth self.entry.unit.now) at) }
+    {
+        self.run(at, depth, Item::Node(Class::Statement))
+    }
+
+    // A run: its length, then items that fill it.
+    #[cycle(nodes)]
+    fn run(self, at: usize, depth: usize, item: Item) -> Result<usize, Refusal>
+        ensures { end_answer result ≡ no_value (run self.entry.unit.now self.entry.end (item_of item depth self.entry.unit.now) at) }
+    {
+        let (_count, next) = self.list(at, depth, item)?;
+        Ok(next)
+    }
+
+    // The same, with the number of items.
+    #[tactic(auto, unfolding(definitions::specs::Answer::bind, crate::proofs::Laws::and_then, definitions::specs::Read::run))]
+    #[cycle(nodes)]
+    fn list(self, at: usize, depth: usize, item: Item) -> Result<(usize, usize), Refusal>
+        ensures { answer result ≡ map_value length (run self.entry.unit.now self.entry.end (item_of item depth self.entry.unit.now) at) }
+    {
+        let (run, first) = self.part(at)?;
+        run.fill(first, depth, item)
+    }
+
+    // Items from `first` up to the end of this run, and how many.
+    #[cycle(nodes)]
+    fn fill(self, first: usize, depth: usize, item: Item) -> Result<(usize, usize), Refusal>
+        ensures { answer result ≡ map_value length (filling (item_of item depth self.entry.unit.now) self.entry.end first) }
+    {
+        let mut next = first;
+        let mut count = 0;
+        while next < self.end {
+            next = self.item(next, depth, item)?;
+            count += 1;
+        }
+        Ok((count, self.end))
+    }
+
+    // An item of a run: a node, or an arm, which is a condition (a matcher) and a block.
+    #[tactic(auto, using(crate::proofs::NodeLaws::arm_item), unfolding(definitions::specs::Answer::bind, crate::proofs::Laws::and_then, definitions::specs::Read::give, definitions::specs::Read::arm))]
+    #[cycle(nodes)]
+    fn item(self, at: usize, depth: usize, item: Item) -> Result<usize, Refusal>
+        ensures { end_answer result ≡ no_value (item_of item depth self.entry.unit.now self.entry.end at) }
+    {
+        match item {
+            Item::Node(class) => self.node(at, depth, class),
+            Item::Arm => {
+                let test = self.expr(at, depth)?;
+                self.block(test, depth)
+            }
         }
     }
-}
 
-// The default block, where its mark is 1.
-#[cycle(nodes)]
-fn read_default(s: &[u8], from: Read, end: usize, depth: usize, mark: usize) -> Read
-    requires { end ≤ length s.now }
-    ensures { result ≡ after from (block_if mark (run s.now end (parse_stmt depth s.now))) }
-{
-    if mark == 0 {
-        return from;
+    // The default block, where its mark says that there is one.
+    #[tactic(auto, unfolding(definitions::specs::Answer::bind, crate::proofs::Laws::and_then, definitions::specs::Read::give, definitions::specs::Read::block_if))]
+    #[cycle(nodes)]
+    fn default(self, at: usize, depth: usize, mark: bool) -> Result<usize, Refusal>
+        ensures { end_answer result ≡ no_value (block_if (mark_of mark) (run self.entry.unit.now self.entry.end (parse_stmt depth self.entry.unit.now)) at) }
+    {
+        if mark {
+            return self.block(at, depth);
+        }
+        Ok(at)
     }
-    read_run(s, from, end, depth, Item::Node(Class::Statement))
-}
-
-// The expression that is returned, where its mark is 1.
-#[cycle(nodes)]
-fn read_return(s: &[u8], from: Read, node: usize, end: usize, depth: usize, mark: usize) -> Read
-    requires { end ≤ length s.now }
-    ensures { result ≡ after from (return_if mark node (parse_expr depth s.now end)) }
-{
-    if mark == 0 {
-        return from;
-    }
-    read_node(s, from, end, depth, Class::Expression)
 }

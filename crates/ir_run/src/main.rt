@@ -6,30 +6,15 @@ ghost use Rattle.std.specs.Prelude.{◌≤◌, length};
 
 mod limits;
 
-use ir::ReadUnit;
 use samples::text;
 use std::io;
 use std::io::Write;
 
-fn number(rt: &impl Print, n: usize) -> io::Result<()> {
-    print!(rt; " {n}")
-}
-
 fn show(rt: &impl Print, unit: &[u8]) -> io::Result<()> {
     match ir::read_unit(unit) {
-        ReadUnit::Reads { returns, end } => {
-            print!(rt; " reads")?;
-            number(rt, returns)?;
-            number(rt, end)?;
-        }
-        ReadUnit::Fails(q) => {
-            print!(rt; " refused")?;
-            number(rt, q.number)?;
-            number(rt, q.place)?;
-            number(rt, q.extra)?;
-        }
+        Ok(read) => println!(rt; " reads {} {}", read.returns, read.end),
+        Err(refusal) => println!(rt; " {refusal}"),
     }
-    println!(rt)
 }
 
 // The first n bytes as a unit.

@@ -1,7 +1,8 @@
 // Units at the limits, made byte by byte where they fit. Each function answers where its unit ends.
 ghost use Rattle.std.specs.Prelude.{◌≤◌, ◌^◌};
 
-use ir::{expr, stmt};
+use ir::expr::{CODE_AS_REF, ExprKind};
+use ir::stmt::StmtKind;
 
 fn byte(v: usize) -> u8 {
     (v % 256) as u8
@@ -67,11 +68,11 @@ pub fn flat(out: &mut [u8], returns: u8, breaks: u32) -> usize {
     let mut at = front(out, 6 * first + 5 * second);
     let mut left = first;
     while left > 0 {
-        at = head(out, at, 2, stmt::RETURN);
+        at = head(out, at, 2, StmtKind::Return as u8);
         at = push(out, at, 0);
         left -= 1;
     }
-    bare(out, at, second, stmt::BREAK)
+    bare(out, at, second, StmtKind::Break as u8)
 }
 
 // So many Blocks, one in another, and a Break in the last.
@@ -79,24 +80,24 @@ pub fn blocks(out: &mut [u8], count: u16) -> usize {
     let mut left = count as usize;
     let mut at = front(out, 9 * left + 5);
     while left > 0 {
-        at = head(out, at, 9 * left + 1, stmt::BLOCK);
+        at = head(out, at, 9 * left + 1, StmtKind::Block as u8);
         at = push_u32(out, at, 9 * left - 4);
         left -= 1;
     }
-    bare(out, at, 1, stmt::BREAK)
+    bare(out, at, 1, StmtKind::Break as u8)
 }
 
 // An expression statement: so many DynCasts, one in another, and a Nop in the last.
 pub fn casts(out: &mut [u8], count: u16) -> usize {
     let mut left = count as usize;
     let start = front(out, 10 * left + 10);
-    let mut at = head(out, start, 10 * left + 6, stmt::EXPR);
+    let mut at = head(out, start, 10 * left + 6, StmtKind::Expr as u8);
     while left > 0 {
-        at = head(out, at, 10 * left + 1, expr::DYN_CAST);
+        at = head(out, at, 10 * left + 1, ExprKind::DynCast as u8);
         at = zeros(out, at, 5);
         left -= 1;
     }
-    bare(out, at, 1, expr::NOP)
+    bare(out, at, 1, ExprKind::Nop as u8)
 }
 
 // An expression statement: a call of a function with so many parameters, up to its arguments, which take so many bytes.
@@ -105,8 +106,13 @@ fn call_front(out: &mut [u8], params: u8, length: usize) -> usize
 {
     let marked = params as usize;
     let start = front(out, marked + length + 26);
-    let statement = head(out, start, marked + length + 22, stmt::EXPR);
-    let node = head(out, statement, marked + length + 17, expr::FREE_CALL);
+    let statement = head(out, start, marked + length + 22, StmtKind::Expr as u8);
+    let node = head(
+        out,
+        statement,
+        marked + length + 17,
+        ExprKind::FreeCall as u8,
+    );
     let fields = zeros(out, node, 11);
     let count = push(out, fields, params);
     let marks = zeros(out, count, marked);
@@ -117,17 +123,17 @@ fn call_front(out: &mut [u8], params: u8, length: usize) -> usize
 pub fn call(out: &mut [u8], params: u8, args: u16) -> usize {
     let given = args as usize;
     let run = call_front(out, params, 5 * given);
-    bare(out, run, given, expr::NOP)
+    bare(out, run, given, ExprKind::Nop as u8)
 }
 
 // A Branches statement with so many branches, each with a Nop for its condition and an empty block: two labels more than branches.
 pub fn branches(out: &mut [u8], count: u32) -> usize {
     let mut left = count as usize;
     let start = front(out, 9 * left + 10);
-    let node = head(out, start, 9 * left + 6, stmt::BRANCHES);
+    let node = head(out, start, 9 * left + 6, StmtKind::Branches as u8);
     let mut at = push_u32(out, node, 9 * left);
     while left > 0 {
-        let block = head(out, at, 1, expr::NOP);
+        let block = head(out, at, 1, ExprKind::Nop as u8);
         at = push_u32(out, block, 0);
         left -= 1;
     }
@@ -139,26 +145,26 @@ pub fn whiles(out: &mut [u8], count: u16) -> usize {
     let mut left = count as usize;
     let mut at = front(out, 14 * left + 5);
     while left > 0 {
-        let node = head(out, at, 14 * left + 1, stmt::WHILE);
-        let condition = bare(out, node, 1, expr::NOP);
+        let node = head(out, at, 14 * left + 1, StmtKind::While as u8);
+        let condition = bare(out, node, 1, ExprKind::Nop as u8);
         at = push_u32(out, condition, 14 * left - 9);
         left -= 1;
     }
-    bare(out, at, 1, stmt::BREAK)
+    bare(out, at, 1, StmtKind::Break as u8)
 }
 
 // A While on `false` with so many Nop statements.
 pub fn while_nops(out: &mut [u8], count: u32) -> usize {
     let mut left = count as usize;
     let start = front(out, 10 * left + 16);
-    let node = head(out, start, 10 * left + 12, stmt::WHILE);
-    let constant = head(out, node, 3, expr::CONST);
+    let node = head(out, start, 10 * left + 12, StmtKind::While as u8);
+    let constant = head(out, node, 3, ExprKind::Const as u8);
     let bool = push(out, constant, 15);
     let condition = push(out, bool, 0);
     let mut at = push_u32(out, condition, 10 * left);
     while left > 0 {
-        at = head(out, at, 6, stmt::EXPR);
-        at = head(out, at, 1, expr::NOP);
+        at = head(out, at, 6, StmtKind::Expr as u8);
+        at = head(out, at, 1, ExprKind::Nop as u8);
         left -= 1;
     }
     at
@@ -168,22 +174,22 @@ pub fn while_nops(out: &mut [u8], count: u32) -> usize {
 pub fn construct(out: &mut [u8], count: u16) -> usize {
     let given = count as usize;
     let start = front(out, 5 * given + 18);
-    let statement = head(out, start, 5 * given + 14, stmt::EXPR);
-    let node = head(out, statement, 5 * given + 9, expr::CONSTRUCT);
+    let statement = head(out, start, 5 * given + 14, StmtKind::Expr as u8);
+    let node = head(out, statement, 5 * given + 9, ExprKind::Construct as u8);
     let class = push_u32(out, node, 0);
     let run = push_u32(out, class, 5 * given);
-    bare(out, run, given, expr::NOP)
+    bare(out, run, given, ExprKind::Nop as u8)
 }
 
 // A call of AsRef on a null, which is a value: 22 bytes.
 fn as_ref(out: &mut [u8], n: usize) -> usize {
-    let node = head(out, n, 18, expr::INTRINSIC_CALL);
-    let code = push(out, node, expr::CODE_AS_REF);
+    let node = head(out, n, 18, ExprKind::IntrinsicCall as u8);
+    let code = push(out, node, CODE_AS_REF);
     let mark = push(out, code, 0);
     let types = push(out, mark, 1);
     let index = push_u32(out, types, 0);
     let run = push_u32(out, index, 6);
-    let null = head(out, run, 2, expr::NULL);
+    let null = head(out, run, 2, ExprKind::Null as u8);
     push(out, null, 0)
 }
 
@@ -191,6 +197,6 @@ fn as_ref(out: &mut [u8], n: usize) -> usize {
 pub fn flagged(out: &mut [u8], index: u8) -> usize {
     let before = index as usize;
     let run = call_front(out, byte(before + 1), 5 * before + 22);
-    let nops = bare(out, run, before, expr::NOP);
+    let nops = bare(out, run, before, ExprKind::Nop as u8);
     as_ref(out, nops)
 }

@@ -1,7 +1,6 @@
 // Units as text: a name and hexadecimal digits to a line.
-ghost use Rattle.std.specs.Prelude.{◌≤◌, length, IfOk};
+ghost use Rattle.std.specs.Prelude.{◌≤◌, ◌<◌, length, IfOk, IfSome};
 
-use super::made::push;
 use std::io;
 use std::io::Read;
 
@@ -20,100 +19,63 @@ pub fn read_full(input: &mut impl Read, out: &mut [u8]) -> io::Result<usize>
     Ok(n)
 }
 
-// The value of a hexadecimal digit; 16 for any other byte.
-fn digit(b: u8) -> u8
-    ensures { result ≤ 16 }
+// The value of a hexadecimal digit, a capital above 9.
+fn digit(b: u8) -> Option<u8>
+    ensures { IfSome result (λ d. d < 16) }
 {
     match b {
-        b'0'..=b'9' => b - b'0',
-        b'A'..=b'F' => b - b'A' + 10,
-        _ => 16,
+        b'0'..=b'9' => Some(b - b'0'),
+        b'A'..=b'F' => Some(b - b'A' + 10),
+        _ => None,
     }
 }
 
-// The byte of two digits.
+// The byte of two digits; 0 for any other bytes.
 fn pair(high: u8, low: u8) -> u8 {
-    let h = digit(high);
-    let l = digit(low);
-    if h < 16 {
-        if l < 16 {
-            return h * 16 + l;
-        }
+    match (digit(high), digit(low)) {
+        (Some(h), Some(l)) => h * 16 + l,
+        _ => 0,
     }
-    0
 }
 
 // Where the byte `b` first stands, or the end.
 pub fn find(text: &[u8], b: u8) -> usize
     ensures { result ≤ length text.now }
 {
-    let mut i = 0;
-    while i < text.len() {
-        if text[i] == b {
-            return i;
-        }
-        i += 1;
-    }
-    i
-}
-
-fn least(a: usize, b: usize) -> usize
-    ensures { (result ≤ a) × (result ≤ b) }
-{
-    if a < b { a } else { b }
+    text.iter().position(|&x| x == b).unwrap_or(text.len())
 }
 
 // The bytes that the digits spell, as many as fit.
 pub fn decode(digits: &[u8], unit: &mut [u8]) -> usize
     ensures { result ≤ length unit.new }
 {
-    let count = least(digits.len() / 2, unit.len());
-    let mut n = 0;
-    while n < count {
-        unit[n] = pair(digits[2 * n], digits[2 * n + 1]);
-        n += 1;
+    for (byte, two) in unit.iter_mut().zip(digits.chunks_exact(2)) {
+        *byte = pair(two[0], two[1]);
     }
-    count
+    unit.len().min(digits.len() / 2)
 }
 
 // The first n bytes; none where there are fewer.
 pub fn first(text: &[u8], n: usize) -> &[u8] {
-    if n <= text.len() {
-        return &text[..n];
-    }
-    &text[0..0]
+    text.get(..n).unwrap_or(&[])
 }
 
 // What follows the first n bytes; nothing where there are fewer.
 pub fn rest(text: &[u8], n: usize) -> &[u8] {
-    if n <= text.len() {
-        return &text[n..];
-    }
-    &text[0..0]
+    text.get(n..).unwrap_or(&[])
 }
 
 // Whether the text begins with these words.
 pub fn begins(text: &[u8], words: &[u8]) -> bool {
-    if text.len() < words.len() {
-        return false;
-    }
-    let mut i = 0;
-    while i < words.len() {
-        if text[i] != words[i] {
-            return false;
-        }
-        i += 1;
-    }
-    true
+    text.starts_with(words)
 }
 
 // The words from position n of `out` on, as many bytes as fit; and the next position.
 pub fn put(words: &[u8], n: usize, out: &mut [u8]) -> usize {
-    let mut at = n;
-    let mut i = 0;
-    while i < words.len() {
-        at = push(out, at, words[i]);
-        i += 1;
-    }
-    at
+    let Some(part) = out.get_mut(n..) else {
+        return n;
+    };
+    let count = words.len().min(part.len());
+    part[..count].copy_from_slice(&words[..count]);
+    n + count
 }

@@ -1,0 +1,10 @@
+use Rattle.std.proofs.Common.{arith}
+use Rattle.std.proofs.lemmas.Grind.{common_steps}
+use Rattle.definitions.specs.Answer.{bind}
+use Rattle.definitions.specs.Read.{callee, give, ◌>>=◌}
+use Rattle.ir.proofs.Laws.{marks_length}
+use Rattle.ir.proofs.fields.Part.callee.Goals as goal
+
+pub returns : goal.returns
+unfolding callee give ◌>>=◌ bind
+returns c = grind (arith, common_steps, marks_length c.args.self.unit.now c.args.self.place c.args.self.end c.in_ok-params.params c.in_ok-params.marks)
