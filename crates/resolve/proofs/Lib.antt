@@ -1,8 +1,9 @@
--- Laws that belong to no one function, and the theorem.
+-- Laws that belong to no one function.
 pub mod LabelLaws
-pub mod Listed
+pub mod RecordLaws
 pub mod Passes
-mod PassLaws
+pub mod PassLaws
+pub mod Listed
 pub mod Delivered
 pub mod Applied
 pub mod Nops

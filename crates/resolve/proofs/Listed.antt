@@ -17,7 +17,8 @@ use Rattle.definitions.specs.Resolve.{in_range, word, distance_of, resolve_field
 use Rattle.laws.proofs.Inversion.{refusal_not_made}
 use Rattle.laws.proofs.Results.{made_is, onward_is}
 use Rattle.laws.proofs.Widths.{Within, AllWithin, number_fits}
-use Rattle.instr.specs.Values.{checked_is, counted}
+use Rattle.instr.specs.Refusals.{answer}
+use Rattle.instr.specs.Values.{counted}
 use Rattle.instr.proofs.WholeLaws.{accepted, read_is_written}
 use Rattle.landing.specs.Walk.{Bytes}
 
@@ -111,7 +112,7 @@ pub record Read (s : List ℕ) (is : List Instr) : Type 0 where
   pub written : listing_bytes is ≡ s
 
 pub listing_read : (s : List ℕ) (is : List Instr) → Bytes s → read_listing s ≡ made is → Read s is
-unfolding counted checked_is
+unfolding answer counted
 listing_read s is b e =
     let k = accepted s (length is) (sym (ap counted e)) in
     let same : is ≡ records_of s = made_is (sym e ∙ k.reads) in

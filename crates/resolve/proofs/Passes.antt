@@ -4,72 +4,70 @@ use Prim.Native.Nat.{ℕ, suc, ◌+◌, ◌-◌, ◌*◌, ◌≤◌, ◌<◌}
 use mathlib.Core.Path.{◌≡◌, refl, ap, sym, ◌∙◌}
 use mathlib.Core.List.{List, [], ◌∷◌, ◌++◌, append_assoc, append-nil}
 use native.Mathlib.Omega.{arith}
-use native.Mathlib.Nat.{zero-add}
 use native.Mathlib.Numerals.{add-one}
-use lib.Dec.{leb}
-use lib.ListN.{length, get_or, take, drop, set, length-append}
-use lib.Seq.{take-append-add, take-length, drop_at, append_snoc, paste, paste-suc}
+use lib.ListN.{length, get_or, take, drop, length-append, length-drop}
+use lib.Seq.{take-append-add, append_snoc}
 use borrow.Author.Tests.{le-leb, lt-leb}
+use Rattle.std.specs.Prelude.{Ok, Err}
 use Rattle.definitions.specs.Answer.{Result, made, refusal, onward, checked}
 use Rattle.definitions.specs.Bytes.{bytes}
 use Rattle.definitions.specs.Tag.{tag_size}
 use Rattle.definitions.specs.Instr.{Instr, size, record_length, record_bytes, record_at}
-use Rattle.definitions.specs.Listing.{front_length, listing_length, records_from, read_listing, records_bytes, listing_bytes}
+use Rattle.definitions.specs.Listing.{front_length, listing_length, count_of, records_from, records_of, record_limit, read_listing, records_bytes, listing_bytes}
 use Rattle.definitions.specs.Resolve.{fitting}
 use Rattle.definitions.specs.Stage.{over, coded, resolve_to}
 use Rattle.laws.proofs.Inversion.{refusal_not_made}
 use Rattle.laws.proofs.Results.{made_is, onward_made, onward_assoc, onward_same, onward_is}
 use Rattle.laws.proofs.Sizes.{size_limit}
-use Rattle.instr.specs.declared.listings.Checked.{Checked}
-use Rattle.instr.specs.declared.listings.Checked.TheVariants.{Good, Bad}
-use Rattle.instr.specs.Values.{checked_is, counted, front, stored}
+use Rattle.instr.specs.declared.refusals.Refusal.{Refusal}
+use Rattle.instr.specs.declared.refusals.Reason.TheVariants.{Room}
+use Rattle.instr.specs.Refusals.{answer}
+use Rattle.instr.specs.Values.{counted, front, stored}
 use Rattle.instr.proofs.NumberLaws.{length_bytes}
 use Rattle.instr.proofs.ListingLaws.{length_records}
 use Rattle.instr.proofs.RecordLaws.{skip}
 use Rattle.instr.proofs.WholeLaws.{records_snoc, Accepted, accepted, length_records_bytes, length_listing, read_is_written}
-use Rattle.ir.specs.declared.Refusal.{Refusal}
-use Rattle.resolve.specs.declared.Resolved.{Resolved}
-use Rattle.resolve.specs.declared.Resolved.TheVariants.{Done, Refused}
-use Rattle.resolve.specs.Values.{relabelled, resolved_is, resolving}
+use Rattle.resolve.specs.Mapping.{Mapped, relabelled, map_record, map_records, try_records, rewrite}
+use Rattle.resolve.specs.Values.{resolving}
 
--- 1. What is done with each record: its first and second are mapped, or it is refused
+-- 1. A listing that passed its check
 
-pub data Mapping (i : Instr) : Result Instr → Type 0 where
-  to : (f s : ℕ) → Mapping i (made (relabelled i f s))
-  not : (n p x : ℕ) → Mapping i (refusal n p x)
+pub few_records : (s : List ℕ) (n : ℕ) → answer (Ok n) ≡ counted (read_listing s) → n ≤ record_limit
+few_records s n e = (accepted s n e).few
 
--- a first and then a second, each of which may be refused
-pub first_then_second : {i : Instr} (x y : Result ℕ) → Mapping i (onward x (λ f. onward y (λ s. made (relabelled i f s))))
-unfolding onward
-first_then_second (made f) (made s) = to f s
-first_then_second (made f) (refusal n p e) = not n p e
-first_then_second (refusal n p e) y = not n p e
+pub whole_listing : (s : List ℕ) (n : ℕ) → answer (Ok n) ≡ counted (read_listing s) → listing_length n ≡ length s
+whole_listing s n e = (accepted s n e).fills
+
+-- 2. What is done with each record: it becomes another, or it is refused
 
 pub record Pass : Type 0 where
   pub one : (start n : ℕ) → Instr → Result Instr
   pub all : (start n : ℕ) → List Instr → Result (List Instr)
   pub none : (start n : ℕ) → all start n [] ≡ made []
   pub more : (start n : ℕ) (i : Instr) (is : List Instr) → all start n (i ∷ is) ≡ onward (one start n i) (λ r. onward (all (start + size i) (suc n) is) (λ rs. made (r ∷ rs)))
-  pub mapped : (start n : ℕ) (i : Instr) → Mapping i (one start n i)
 
-either : {X : Type 0} {i : Instr} {r : Result Instr} → Mapping i r → ((f s : ℕ) → made (relabelled i f s) ≡ r → X) → ((q : Refusal) → refusal q.number q.place q.extra ≡ r → X) → X
-either (to f s) is other = is f s refl
-either (not n p x) is other = other (record { number = n; place = p; extra = x }) refl
+-- whether all records are passed
+abbrev pub tried : Pass → List Instr → Result (Unit {0})
+tried P is = onward (P.all 0 0 is) (λ rs. made tt)
 
--- 2. Records one by one
+-- the listing that comes of it
+abbrev pub passed : Pass → (s : List ℕ) (space : ℕ) → Result (List Instr)
+passed P s space = onward (read_listing s) (λ is. onward (P.all 0 0 is) (λ rs. fitting space rs))
+
+-- 3. Records one by one
 
 -- n records are done, and these are they; the next begins at offset `start`
 pub record Gone (P : Pass) (s : List ℕ) (count n start : ℕ) (done : List Instr) : Type 0 where
   pub few : n ≤ count
   pub low : start ≤ 17 * n
   pub many : length done ≡ n
-  pub goes_on : P.all 0 0 (records_from count s front_length) ≡
+  pub goes_on : P.all 0 0 (records_of s) ≡
       onward (P.all start n (records_from (count - n) s (listing_length n))) (λ rs. made (done ++ rs))
 
-pub gone_start : (P : Pass) (s : List ℕ) (count : ℕ) → Gone P s count 0 0 []
-gone_start P s count =
+pub gone_start : (P : Pass) (s : List ℕ) (count : ℕ) → Accepted s count → Gone P s count 0 0 []
+gone_start P s count a =
     let e : count - 0 ≡ count = omega arith in
-    record { few = omega arith; low = omega arith; many = refl; goes_on = rw e (sym (onward_made (P.all 0 0 (records_from count s front_length)))) }
+    record { few = omega arith; low = omega arith; many = refl; goes_on = rw (e, a.count) (sym (onward_made (P.all 0 0 (records_of s)))) }
 
 records_next : (s : List ℕ) (count n at : ℕ) → n < count → records_from (count - n) s at ≡ record_at s at ∷ records_from (count - (n + 1)) s (at + record_length)
 unfolding records_from
@@ -86,13 +84,14 @@ next_of s n = record_at s (listing_length n)
 module _ {P : Pass} {s : List ℕ} {count n start : ℕ} {done : List Instr} (g : Gone P s count n start done) where
   module _ (h : n < count) where
     -- the whole, with the next record in front of what is left
-    split : P.all 0 0 (records_from count s front_length) ≡
+    split : P.all 0 0 (records_of s) ≡
         onward (P.one start n (next_of s n)) (λ j. onward (P.all (start + size (next_of s n)) (suc n) (records_from (count - (n + 1)) s (listing_length n + record_length))) (λ rs. made (done ++ j ∷ rs)))
     unfolding onward
     split =
         let i = next_of s n in
+        let rest = P.all (start + size i) (suc n) (records_from (count - (n + 1)) s (listing_length n + record_length)) in
         rw (g.goes_on, records_next s count n (listing_length n) h, P.more start n i (records_from (count - (n + 1)) s (listing_length n + record_length)), onward_assoc (P.one start n i))
-        (onward_same (P.one start n i) _ _ (λ j _. onward_assoc (P.all (start + size i) (suc n) (records_from (count - (n + 1)) s (listing_length n + record_length))) (λ rs. made (j ∷ rs)) (λ rs. made (done ++ rs))))
+        (onward_same (P.one start n i) _ _ (λ j _. onward_assoc rest (λ rs. made (j ∷ rs)) (λ rs. made (done ++ rs))))
 
     pub gone_next : (j : Instr) (z : ℕ) → made j ≡ P.one start n (next_of s n) → z ≡ tag_size (next_of s n).tag → Gone P s count (n + 1) (start + z) (done ++ (j ∷ []))
     unfolding onward size
@@ -106,42 +105,26 @@ module _ {P : Pass} {s : List ℕ} {count n start : ℕ} {done : List Instr} (g 
           goes_on = split ∙ rw (← d, a, ← l, ← add-one n) (onward_same R _ _ (λ rs _. ap made (sym (append_snoc done j rs))));
         }
 
-    gone_refused : (q : Refusal) → refusal q.number q.place q.extra ≡ P.one start n (next_of s n) → P.all 0 0 (records_from count s front_length) ≡ refusal q.number q.place q.extra
-    unfolding onward
+    gone_refused : (q : Refusal) → answer {A = Instr} (Err q) ≡ P.one start n (next_of s n) → P.all 0 0 (records_of s) ≡ answer (Err q)
+    unfolding answer onward
     gone_refused q d = split ∙ rw (← d)
 
-  pub gone_end : count ≤ n → (P.all 0 0 (records_from count s front_length) ≡ made done) × (length done ≡ count)
+  pub gone_end : count ≤ n → (P.all 0 0 (records_of s) ≡ made done) × (length done ≡ count)
   unfolding onward
   gone_end h = (rw (g.goes_on, records_none s count n (listing_length n) h, P.none start n, append-nil), omega (arith, g.few, g.many))
 
--- 3. The check of all records
+-- 4. The check of all records
 
 module _ {P : Pass} {s : List ℕ} {count n start : ℕ} {done : List Instr} (g : Gone P s count n start done) where
-  pub labels_refused : n < count → (q : Refusal) → refusal q.number q.place q.extra ≡ P.one start n (next_of s n) → resolved_is (Refused q) ≡ counted (P.all 0 0 (records_from count s front_length))
-  unfolding resolved_is counted
-  labels_refused h q d = rw (gone_refused g h q d)
+  pub pass_refused : n < count → (q : Refusal) → answer {A = Instr} (Err q) ≡ P.one start n (next_of s n) → answer {A = Unit {0}} (Err q) ≡ tried P (records_of s)
+  unfolding answer onward
+  pass_refused h q d = rw (gone_refused g h q d)
 
-  pub labels_end : count ≤ n → resolved_is (Done count) ≡ counted (P.all 0 0 (records_from count s front_length))
-  unfolding resolved_is counted
-  labels_end h = let e = gone_end g h in rw (e.0, e.1)
+  pub pass_end : count ≤ n → answer (Ok tt) ≡ tried P (records_of s)
+  unfolding answer onward
+  pass_end h = let e = gone_end g h in rw e.0
 
-  -- where all have been checked, the next is not refused
-  next_made : counted (P.all 0 0 (records_from count s front_length)) ≡ made count → n < count →
-      (f : ℕ) × (e : ℕ) × (made (relabelled (next_of s n) f e) ≡ P.one start n (next_of s n))
-  unfolding counted
-  next_made all h = either (P.mapped start n (next_of s n)) (λ f e d. (f, e, d)) (λ q d. refusal_not_made (rw (gone_refused g h q d) at all))
-
--- 4. The pass that writes
-
--- the listing's copy, a byte more and at its end
-pub copy_next : (s o out : List ℕ) (k : ℕ) → out ≡ paste o 0 s k → k < length s → length s ≤ length o → set out k (get_or s k 0) ≡ paste o 0 s (k + 1)
-copy_next s o out k e h l =
-    let z : k ≡ 0 + k = omega arith in
-    rw (e, add-one k) (ap (λ (i : ℕ). set (paste o 0 s k) i (get_or s k 0)) z ∙ paste-suc o 0 s k 0 (omega arith) h)
-
-pub copy_end : (s o out : List ℕ) (k : ℕ) → out ≡ paste o 0 s k → k ≤ length s → length s ≤ k → out ≡ over s o
-unfolding over
-copy_end s o out k e h l = let n : k ≡ length s = omega arith in e ∙ rw (n, take-length s, zero-add (length s))
+-- 5. The pass that writes
 
 -- a number stored behind the front of a list
 stored_behind : (p q : List ℕ) (at k w v : ℕ) → length p ≡ at → stored (at + k) w v (p ++ q) ≡ p ++ stored k w v q
@@ -176,19 +159,19 @@ spread : (a b c : List ℕ) → (a ++ b) ++ c ≡ (a ++ []) ++ (b ++ c)
 spread a b c = rw (append-nil a) (append_assoc a b c)
 
 -- a listing that was copied to the front of a buffer, before the first record
-module _ (s : List ℕ) (count : ℕ) (a : Accepted s count) (o out : List ℕ) (copied : out ≡ over s o) where
-  behind : drop (listing_length count) out ≡ drop (listing_length count) o
-  unfolding over
-  behind = rw (copied, ← a.fills) (drop_at s (drop (listing_length count) o) (listing_length count) (sym a.fills))
-
-  pub coding_start : (P : Pass) → ((k : ℕ) → get_or s k 0 < 256) → Coding P s count 0 0 out out
-  unfolding records_bytes
-  coding_start P b =
-      let is = records_from count s front_length in
-      let all : over s o ≡ (front count ++ records_bytes is) ++ drop (listing_length count) o =
-      rw (length_records count s front_length, read_is_written s count a b) at (over_listing is o) in
-      let e : count - 0 ≡ count = omega arith in
-      record { done = []; gone = gone_start P s count; long = refl; wrote = rw (e, behind) (copied ∙ all ∙ spread (front count) (records_bytes is) (drop (listing_length count) o)) }
+pub coding_start : (P : Pass) (s : List ℕ) (count : ℕ) → Accepted s count → ((k : ℕ) → get_or s k 0 < 256) → (o : List ℕ) → length s ≤ length o → Coding P s count 0 0 o (s ++ drop (length s) o)
+unfolding over records_bytes
+coding_start P s count a b o room =
+    let is = records_from count s front_length in
+    let all : s ++ drop (length s) o ≡ (front count ++ records_bytes is) ++ drop (listing_length count) o =
+    rw (length_records count s front_length, read_is_written s count a b) at (over_listing is o) in
+    let e : count - 0 ≡ count = omega arith in
+    record {
+      done = [];
+      gone = gone_start P s count a;
+      long = omega (arith, a.fills, length-append s (drop (length s) o), length-drop (length s) o);
+      wrote = rw e (all ∙ spread (front count) (records_bytes is) (drop (listing_length count) o));
+    }
 
 module _ {P : Pass} {s : List ℕ} {count n start : ℕ} {o out : List ℕ} (c : Coding P s count n start o out) where
   -- what stands before the next record, and behind it
@@ -218,39 +201,37 @@ module _ {P : Pass} {s : List ℕ} {count n start : ℕ} {o out : List ℕ} (c :
       wrote = w ∙ rw (records_snoc c.done j) (regroup (front count) (records_bytes c.done) (record_bytes j) behind_it);
     }
 
-    -- it carries no label, and nothing is stored
+    -- it carries nothing, and nothing is stored
     pub coding_plain : (z : ℕ) → made (next_of s n) ≡ P.one start n (next_of s n) → z ≡ tag_size (next_of s n).tag → Coding P s count (n + 1) (start + z) o out
     coding_plain z d l = next (next_of s n) z d l out refl here
 
-    -- its distances are stored
-    pub coding_labels : counted (P.all 0 0 (records_from count s front_length)) ≡ made count → (z : ℕ) → z ≡ tag_size (next_of s n).tag → (out' : List ℕ) → length out' ≡ length out →
-        ((f e : ℕ) → made (relabelled (next_of s n) f e) ≡ P.one start n (next_of s n) → out' ≡ stored (listing_length n + 4) 2 e (stored (listing_length n + 2) 2 f out)) →
-        Coding P s count (n + 1) (start + z) o out'
-    coding_labels all z l out' same w =
+    -- its fields are stored
+    pub coding_fields : (f e : ℕ) → made (relabelled (next_of s n) f e) ≡ P.one start n (next_of s n) → (z : ℕ) → z ≡ tag_size (next_of s n).tag →
+        (out₁ out₂ : List ℕ) → length out₂ ≡ length out → out₁ ≡ stored (listing_length n + 2) 2 f out → out₂ ≡ stored (listing_length n + 4) 2 e out₁ →
+        Coding P s count (n + 1) (start + z) o out₂
+    coding_fields f e d z l out₁ out₂ same w v =
         let i = next_of s n in
-        let k = next_made c.gone all h in
-        let f = k.0 in
-        let e = k.1 in
         let j = relabelled i f i.second in
-        let one : stored (listing_length n + 2) 2 f out ≡ before ++ (record_bytes j ++ behind_it) =
-        rw here (stored_behind before (record_bytes i ++ behind_it) (listing_length n) 2 2 f before_long ∙ ap (λ (l : List ℕ). before ++ l) (put_first i behind_it f)) in
-        let two : out' ≡ before ++ (record_bytes (relabelled i f e) ++ behind_it) =
-        w f e k.2 ∙ rw one (stored_behind before (record_bytes j ++ behind_it) (listing_length n) 4 2 e before_long ∙ ap (λ (l : List ℕ). before ++ l) (put_second j behind_it e)) in
-        next (relabelled i f e) z k.2 l out' same two
+        let one : out₁ ≡ before ++ (record_bytes j ++ behind_it) =
+        w ∙ rw here (stored_behind before (record_bytes i ++ behind_it) (listing_length n) 2 2 f before_long ∙ ap (λ (l : List ℕ). before ++ l) (put_first i behind_it f)) in
+        let two : out₂ ≡ before ++ (record_bytes (relabelled i f e) ++ behind_it) =
+        v ∙ rw one (stored_behind before (record_bytes j ++ behind_it) (listing_length n) 4 2 e before_long ∙ ap (λ (l : List ℕ). before ++ l) (put_second j behind_it e)) in
+        next (relabelled i f e) z d l out₂ same two
+
+    -- where all have been checked, it is not refused
+    pub pass_never : {X : Type 0} → answer (Ok tt) ≡ tried P (records_of s) → (q : Refusal) → answer {A = Instr} (Err q) ≡ P.one start n (next_of s n) → X
+    unfolding answer onward
+    pass_never all q d = refusal_not_made (rw (gone_refused c.gone h q d) at (sym all))
 
   -- all records are done
-  pub coding_end : (p : List ℕ) → count ≤ n → Accepted s count → o ≡ over s p → coded count out ≡ resolve_to (P.all 0 0 (records_from count s front_length)) p
+  pub coding_end : count ≤ n → coded count out ≡ resolve_to (P.all 0 0 (records_of s)) o
   unfolding resolve_to records_bytes
-  coding_end p h a copied =
+  coding_end h =
       let e = gone_end c.gone h in
-      let w : out ≡ (front count ++ records_bytes c.done) ++ drop (listing_length count) p = rw (records_none s count n (listing_length n) h, behind s count a p o copied) at c.wrote in
-      rw (e.0, over_listing c.done p, e.1) (ap (coded count) w)
+      let w : out ≡ (front count ++ records_bytes c.done) ++ drop (listing_length count) o = rw (records_none s count n (listing_length n) h) at c.wrote in
+      rw (e.0, over_listing c.done o, e.1) (ap (coded count) w)
 
--- 5. What a function answers that checks a listing, then all of its records, then the room, and then writes
-
--- the listing that comes of it
-abbrev pub passed : Pass → (s : List ℕ) (space : ℕ) → Result (List Instr)
-passed P s space = onward (read_listing s) (λ is. onward (P.all 0 0 is) (λ rs. fitting space rs))
+-- 6. What a function answers that checks a listing, then all of its records, then the room, and then writes
 
 all_length : (P : Pass) (start k : ℕ) (is rs : List Instr) → P.all start k is ≡ made rs → length rs ≡ length is
 all_length P start k [] rs e = let z : rs ≡ [] = made_is (sym e ∙ P.none start k) in rw z
@@ -260,59 +241,90 @@ all_length P start k (i ∷ is) rs e =
     let z : rs ≡ a.0 ∷ b.0 = sym (made_is b.2) in
     rw z (ap suc (all_length P (start + size i) (suc k) is b.0 b.1))
 
-counted_is : (r : Result (List Instr)) (m : ℕ) → made m ≡ counted r → (rs : List Instr) × (r ≡ made rs) × (length rs ≡ m)
-unfolding counted
-counted_is (made rs) m e = (rs, refl, cc)
-counted_is (refusal n p x) m e = refusal_not_made (sym e)
+refused_is : {A : Type 0} (r : Result (List Instr)) (f : List Instr → A) (q : Refusal) → answer {A = A} (Err q) ≡ onward r (λ is. made (f is)) → r ≡ answer (Err q)
+unfolding answer onward
+refused_is (made is) f q e = refusal_not_made e
+refused_is (refusal a b c) f q e = cc
 
-refused_is : (r : Result (List Instr)) (n p x : ℕ) → refusal n p x ≡ counted r → r ≡ refusal n p x
-unfolding counted
-refused_is (made rs) n p x e = refusal_not_made e
-refused_is (refusal a b c) n p x e = cc
+counted_refused : (r : Result (List Instr)) (q : Refusal) → answer {A = ℕ} (Err q) ≡ counted r → r ≡ answer (Err q)
+unfolding answer counted
+counted_refused (made is) q e = refusal_not_made e
+counted_refused (refusal a b c) q e = cc
 
-pub answer_30 : (P : Pass) (s : List ℕ) (space : ℕ) (o : List ℕ) (r : Checked) → r ≡ Bad → checked_is r ≡ counted (read_listing s) →
-    resolving (Refused (record { number = 30; place = 0; extra = 0 })) o ≡ resolve_to (passed P s space) o
-unfolding checked_is resolving resolve_to onward
-answer_30 P s space o r d e = rw (refused_is (read_listing s) 30 0 0 (rw d at e))
+pub answer_30 : (P : Pass) (s : List ℕ) (space : ℕ) (o : List ℕ) (q : Refusal) → answer {A = ℕ} (Err q) ≡ counted (read_listing s) → resolving (Err q) o ≡ resolve_to (passed P s space) o
+unfolding answer resolving resolve_to onward
+answer_30 P s space o q e = rw (counted_refused (read_listing s) q e)
 
-pub passes : (s : List ℕ) (n : ℕ) (r : Checked) → r ≡ Good n → checked_is r ≡ counted (read_listing s) → made n ≡ counted (read_listing s)
-unfolding checked_is
-passes s n r good check = rw good at check
+module _ (P : Pass) (s : List ℕ) (n : ℕ) (good : answer (Ok n) ≡ counted (read_listing s)) where
+  abbrev a : Accepted s n
+  a = accepted s n good
 
--- what a listing that passed its check has
-pub accepts : {s : List ℕ} {n : ℕ} → made n ≡ counted (read_listing s) → Accepted s n
-unfolding checked_is
-accepts {s} {n} pass = accepted s n pass
-
-module _ (P : Pass) (s : List ℕ) (n : ℕ) (pass : made n ≡ counted (read_listing s)) where
-  abbrev all : Result (List Instr)
-  all = P.all 0 0 (records_from n s front_length)
-
-  passed_is : (space : ℕ) → passed P s space ≡ onward all (λ rs. checked (leb (listing_length (length rs)) space) 20 0 0 (made rs))
+  passed_is : (space : ℕ) → passed P s space ≡ onward (P.all 0 0 (records_of s)) (fitting space)
   unfolding onward
-  passed_is space = let a = accepts pass in rw (a.reads, a.count)
+  passed_is space = rw a.reads
 
-  module _ (x : Resolved) (labels : resolved_is x ≡ counted (P.all 0 0 (records_from n s front_length))) where
-    pub answer_labels : (space : ℕ) (o : List ℕ) (q : Refusal) → x ≡ Refused q → resolving x o ≡ resolve_to (passed P s space) o
-    unfolding resolved_is resolving resolve_to onward
-    answer_labels space o q d = rw (passed_is space, refused_is all q.number q.place q.extra (rw d at labels), d)
+  pub answer_labels : (space : ℕ) (o : List ℕ) (q : Refusal) → answer {A = Unit {0}} (Err q) ≡ tried P (records_of s) → resolving (Err q) o ≡ resolve_to (passed P s space) o
+  unfolding answer resolving resolve_to onward
+  answer_labels space o q e = rw (passed_is space, refused_is (P.all 0 0 (records_of s)) (λ _. tt) q e)
 
-    module _ (m : ℕ) (d : x ≡ Done m) where
-      -- as many as the listing has
-      made_all : (rs : List Instr) × (all ≡ made rs) × (length rs ≡ n)
-      unfolding resolved_is
-      made_all =
-          let c = counted_is all m (rw d at labels) in
-          (c.0, c.1, all_length P 0 0 (records_from n s front_length) c.0 c.1 ∙ length_records n s front_length)
+  module _ (e : answer (Ok tt) ≡ tried P (records_of s)) where
+    -- as many as the listing has
+    made_all : (rs : List Instr) × (P.all 0 0 (records_of s) ≡ made rs) × (length rs ≡ n)
+    unfolding answer
+    made_all =
+        let c = onward_is (P.all 0 0 (records_of s)) (λ rs. made tt) (sym e) in
+        (c.0, c.1, all_length P 0 0 (records_of s) c.0 c.1 ∙ length_records (count_of s) s front_length ∙ sym a.count)
 
-      pub answer_20 : (o : List ℕ) → length o < listing_length n → resolving (Refused (record { number = 20; place = 0; extra = 0 })) o ≡ resolve_to (passed P s (length o)) o
-      unfolding resolving resolve_to onward checked
-      answer_20 o h = let a = made_all in rw (passed_is (length o), a.1, a.2, lt-leb (listing_length n) (length o) h)
+    pub answer_20 : (o : List ℕ) → length o < length s → resolving (Err (record { reason = Room; place = 0; extra = 0 })) o ≡ resolve_to (passed P s (length o)) o
+    unfolding resolving resolve_to onward checked
+    answer_20 o h = let r = made_all in rw (passed_is (length o), r.1, r.2, lt-leb (listing_length n) (length o) (rw a.fills h))
 
-      pub ready : counted (P.all 0 0 (records_from n s front_length)) ≡ made n
-      unfolding counted
-      ready = let a = made_all in rw (a.1, a.2)
+    pub answer_done : (o out : List ℕ) → length s ≤ length o → coded n out ≡ resolve_to (P.all 0 0 (records_of s)) o → resolving (Ok n) out ≡ resolve_to (passed P s (length o)) o
+    unfolding resolving onward checked
+    answer_done o out h d = let r = made_all in d ∙ rw (passed_is (length o), r.1, r.2, le-leb (listing_length n) (length o) (rw a.fills h))
 
-      pub answer_done : (o : List ℕ) → listing_length n ≤ length o → resolve_to (P.all 0 0 (records_from n s front_length)) o ≡ resolve_to (passed P s (length o)) o
-      unfolding onward checked
-      answer_done o h = let a = made_all in rw (passed_is (length o), a.1, a.2, le-leb (listing_length n) (length o) h)
+-- 7. The passes that map fields
+
+pub map_none : (m : Mapped) (start n : ℕ) → map_records m start n [] ≡ made []
+unfolding map_records
+map_none m start n = refl
+
+pub map_more : (m : Mapped) (start n : ℕ) (i : Instr) (is : List Instr) →
+    map_records m start n (i ∷ is) ≡ onward (map_record m start n i) (λ r. onward (map_records m (start + size i) (suc n) is) (λ rs. made (r ∷ rs)))
+unfolding map_records
+map_more m start n i is = refl
+
+abbrev pub mapping : Mapped → Pass
+mapping m = record { one = map_record m; all = map_records m; none = map_none m; more = map_more m }
+
+module _ (m : Mapped) {s : List ℕ} {count n start : ℕ} {done : List Instr} (g : Gone (mapping m) s count n start done) where
+  pub checked_refused : n < count → (q : Refusal) → answer {A = Instr} (Err q) ≡ map_record m start n (next_of s n) → answer {A = Unit {0}} (Err q) ≡ try_records m 0 0 (records_of s)
+  unfolding try_records
+  checked_refused h q d = pass_refused g h q d
+
+  pub checked_end : count ≤ n → answer (Ok tt) ≡ try_records m 0 0 (records_of s)
+  unfolding try_records
+  checked_end h = pass_end g h
+
+pub coding_refused : (m : Mapped) {s : List ℕ} {count n start : ℕ} {o out : List ℕ} → Coding (mapping m) s count n start o out → n < count → {X : Type 0} →
+    answer (Ok tt) ≡ try_records m 0 0 (records_of s) → (q : Refusal) → answer {A = Instr} (Err q) ≡ map_record m start n (next_of s n) → X
+unfolding try_records
+coding_refused m c h all q d = pass_never c h all q d
+
+pub rewrite_30 : (m : Mapped) (s : List ℕ) (space : ℕ) (o : List ℕ) (q : Refusal) → answer {A = ℕ} (Err q) ≡ counted (read_listing s) → resolving (Err q) o ≡ resolve_to (rewrite m s space) o
+unfolding rewrite
+rewrite_30 m s space o q e = answer_30 (mapping m) s space o q e
+
+module _ (m : Mapped) (s : List ℕ) (n : ℕ) (good : answer (Ok n) ≡ counted (read_listing s)) where
+  pub rewrite_labels : (space : ℕ) (o : List ℕ) (q : Refusal) → answer {A = Unit {0}} (Err q) ≡ try_records m 0 0 (records_of s) → resolving (Err q) o ≡ resolve_to (rewrite m s space) o
+  unfolding rewrite try_records
+  rewrite_labels space o q e = answer_labels (mapping m) s n good space o q e
+
+  module _ (e : answer (Ok tt) ≡ try_records m 0 0 (records_of s)) where
+    pub rewrite_20 : (o : List ℕ) → length o < length s → resolving (Err (record { reason = Room; place = 0; extra = 0 })) o ≡ resolve_to (rewrite m s (length o)) o
+    unfolding rewrite try_records
+    rewrite_20 o h = answer_20 (mapping m) s n good e o h
+
+    pub rewrite_done : (o out : List ℕ) → length s ≤ length o → coded n out ≡ resolve_to (map_records m 0 0 (records_of s)) o → resolving (Ok n) out ≡ resolve_to (rewrite m s (length o)) o
+    unfolding rewrite try_records
+    rewrite_done o out h d = answer_done (mapping m) s n good e o out h d

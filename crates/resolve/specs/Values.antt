@@ -1,41 +1,24 @@
 -- The resolver's answers, in the words of the definitions.
-use Rattle.std.specs.Prelude.{ℕ, List}
+use Rattle.std.specs.Prelude.{ℕ, cond, List, Option, Some, None, Result, Ok, Err}
 use Rattle.std.proofs.Math.IntN.{sub_ℕ}
-use Rattle.definitions.specs.Answer.{Result, made, refusal, checked}
-use Rattle.definitions.specs.Instr.{Instr}
 use Rattle.definitions.specs.Resolve.{in_range, word}
 use Rattle.definitions.specs.Stage.{Resolving, coded, unresolved}
-use Rattle.resolve.specs.declared.Resolved.{Resolved}
-use Rattle.resolve.specs.declared.Resolved.TheVariants.{Done, Refused}
-use Rattle.resolve.specs.declared.labels.Field.{Field}
-use Rattle.resolve.specs.declared.labels.Field.TheVariants as field
-use Rattle.resolve.specs.declared.labels.Mapped.{Mapped}
-use Rattle.resolve.specs.declared.labels.Mapped.TheVariants as mapped
+use Rattle.instr.specs.declared.refusals.Refusal.{Refusal}
+use Rattle.instr.specs.Refusals.{number_of}
+use Rattle.resolve.specs.declared.mapping.Operand.{Operand}
+use Rattle.resolve.specs.declared.mapping.Operand.TheVariants.{First, Second}
+pub use Rattle.resolve.specs.Mapping.{relabelled}
 
--- a field
-unfoldable pub field_is : Field → Result ℕ
-field_is (field.Is v) = made v
-field_is (field.Not q) = refusal q.number q.place q.extra
-
--- a record with another first and second
-abbrev pub relabelled : Instr → (first second : ℕ) → Instr
-relabelled i f s = record { tag = i.tag; small = i.small; first = f; second = s; line = i.line; flags = i.flags; value = i.value; node = i.node }
-
--- the record i, mapped
-unfoldable pub mapped_is : (i : Instr) → Mapped → Result Instr
-mapped_is i (mapped.Is f s) = made (relabelled i f s)
-mapped_is i (mapped.Not q) = refusal q.number q.place q.extra
-
--- a pass over all records
-unfoldable pub resolved_is : Resolved → Result ℕ
-resolved_is (Done n) = made n
-resolved_is (Refused q) = refusal q.number q.place q.extra
+-- "extra 0 first, 1 second"
+abbrev pub extra_of : Operand → ℕ
+extra_of First = 0
+extra_of Second = 1
 
 -- the distance of a mark, where it is in range
-unfoldable pub near : (mark start number extra : ℕ) → Result ℕ
-near mark start number extra = checked (in_range (sub_ℕ mark start)) 32 number extra (made (word (sub_ℕ mark start)))
+unfoldable pub near : (mark start : ℕ) → Option ℕ
+near mark start = cond (in_range (sub_ℕ mark start)) (Some (word (sub_ℕ mark start))) None
 
 -- the answer, and what the buffer holds then
-unfoldable pub resolving : Resolved → (out : List ℕ) → Resolving
-resolving (Done n) o = coded n o
-resolving (Refused q) o = unresolved q.number q.place q.extra o
+unfoldable pub resolving : Result ℕ Refusal → (out : List ℕ) → Resolving
+resolving (Ok n) o = coded n o
+resolving (Err q) o = unresolved (number_of q.reason) q.place q.extra o

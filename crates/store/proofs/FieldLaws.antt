@@ -1,19 +1,18 @@
 -- A field and what is taken off it or put on it: from the number with 32,768 on it to the definition's signed one. Assumes nothing.
-use Prim.Native.Nat.{ℕ, zero, suc, ◌+◌, ◌-◌, ◌≤◌, ◌<◌}
-use mathlib.Core.Path.{◌≡◌, refl, sym, ap, ◌∙◌}
+use Prim.Native.Nat.{ℕ, zero, suc, ◌+◌, ◌-◌, ◌%◌, ◌≤◌, ◌<◌}
+use mathlib.Core.Path.{◌≡◌, refl, ap, ◌∙◌}
 use mathlib.Core.Bool.{Bool, true, false, cond}
-use mathlib.Core.List.{List, [], ◌∷◌}
 use native.Mathlib.Omega.{arith}
 use lib.Dec.{ltb}
 use lib.IntN.{ℤ, pos, negsuc, sub_ℕ}
-use borrow.Author.Tests.{ltb-true, ltb-false, lt-ltb, le-ltb, ne_eqb}
-use Rattle.definitions.specs.Answer.{made, refusal, checked}
+use borrow.Author.Tests.{ltb-true, ltb-false, lt-ltb, le-ltb}
+use Rattle.std.specs.Prelude.{Option, Some, None, SomeIff, option_map, ok_or}
+use Rattle.definitions.specs.Answer.{made, checked}
 use Rattle.definitions.specs.Resolve.{in_range, word, signed}
-use Rattle.definitions.specs.Stored.{Way, there, back, Less, less_in, move_field}
-use Rattle.landing.specs.Landed.{Each}
-use Rattle.store.specs.declared.Way as way
-use Rattle.store.specs.declared.Way.TheVariants.{There, Back}
-use Rattle.store.specs.Values.{way_is, biased}
+use Rattle.definitions.specs.Stored.{Way, there, back, move_field}
+use Rattle.instr.specs.declared.refusals.Reason.TheVariants as reason
+use Rattle.instr.specs.Refusals.{answer}
+use Rattle.store.specs.Values.{biased, shifted}
 
 -- 1. Signed numbers, less and more
 
@@ -84,9 +83,19 @@ sub_half n off h = go (ltb (n - off) 32768) refl
     go true e = let l = ltb-true (n - off) 32768 e in rw (lt-ltb n (32768 + off) (omega arith)) (ap negsuc (omega arith))
     go false e = let l = ltb-false (n - off) 32768 e in rw (le-ltb n (32768 + off) (omega arith)) (ap pos (omega arith))
 
--- 3. Fields
+-- 3. The code's biased number
 
-module _ (w off k x : ℕ) (h : w ≤ 65535) where
+pub bias_is : (n : ℕ) → n < 65536 → (n + 32768) % 65536 ≡ biased n
+unfolding biased
+bias_is n h = go (ltb n 32768) refl
+  where
+    go : (b : Bool) → ltb n 32768 ≡ b → (n + 32768) % 65536 ≡ elim b as (λ _. ℕ) [ true ↦ n + 32768 | false ↦ n - 32768 ]
+    go true e = let l = ltb-true n 32768 e in omega arith
+    go false e = let l = ltb-false n 32768 e in omega arith
+
+-- 4. Fields
+
+module _ (w off : ℕ) (h : w < 65536) where
   low : biased w ≤ 65535
   unfolding biased
   low = go (ltb w 32768) refl
@@ -95,60 +104,34 @@ module _ (w off k x : ℕ) (h : w ≤ 65535) where
       go true e = let l = ltb-true w 32768 e in omega arith
       go false e = omega arith
 
-  moved_to : (way : Way) (n : ℕ) → way (signed w) off ≡ less_half n → n ≤ 65535 → made (biased n) ≡ move_field way true off k x w
-  unfolding move_field checked
-  moved_to way n e l = let i = half_in n l in rw (e, i.0, i.1)
+  there_is : there (signed w) off ≡ sub_ℕ (biased w) (32768 + off)
+  there_is = ap (λ (d : ℤ). there d off) (signed_half w (omega arith)) ∙ half_there (biased w) off
 
-  pub taken : off ≤ biased w → made (biased (biased w - off)) ≡ move_field there true off k x w
-  taken l = moved_to there (biased w - off) (ap (λ (d : ℤ). there d off) (signed_half w h) ∙ half_there (biased w) off ∙ sub_half (biased w) off l) (omega (arith, low))
+  back_is : back (signed w) off ≡ less_half (biased w + off)
+  back_is = ap (λ (d : ℤ). back d off) (signed_half w (omega arith)) ∙ half_back (biased w) off
 
-  pub taken_not : biased w < off → off ≤ 11 → refusal 33 k x ≡ move_field there true off k x w
-  unfolding move_field checked in_range
-  taken_not l m =
-      let e : there (signed w) off ≡ sub_ℕ (biased w) (32768 + off) = ap (λ (d : ℤ). there d off) (signed_half w h) ∙ half_there (biased w) off in
-      rw (e, lt-ltb (biased w) (32768 + off) (omega arith), le-ltb (32768 + off - suc (biased w)) 32768 (omega arith))
+  shifted_to : (way : Way) (n : ℕ) → way (signed w) off ≡ less_half n → n ≤ 65535 → Some (biased n) ≡ shifted way off w
+  unfolding shifted
+  shifted_to way n e l = let i = half_in n l in rw (e, i.0, i.1)
 
-  pub put : biased w + off ≤ 65535 → made (biased (biased w + off)) ≡ move_field back true off k x w
-  put l = moved_to back (biased w + off) (ap (λ (d : ℤ). back d off) (signed_half w h) ∙ half_back (biased w) off) l
+  -- less, where it does not go below 0
+  pub taken : (n : ℕ) → n ≡ biased w → (r : Option ℕ) → SomeIff r (off ≤ n) (n - off) → off ≤ 11 → option_map biased r ≡ shifted there off w
+  unfolding shifted in_range
+  taken n e (Some k) h m =
+      rw (h.1, e) (shifted_to there (biased w - off) (there_is ∙ sub_half (biased w) off (rw e at h.0)) (omega (arith, low)))
+  taken n e None h m =
+      rw (there_is, lt-ltb (biased w) (32768 + off) (omega arith), le-ltb (32768 + off - suc (biased w)) 32768 (omega arith))
 
-  pub put_not : 65535 < biased w + off → refusal 33 k x ≡ move_field back true off k x w
-  unfolding move_field checked
-  put_not l =
-      let e : back (signed w) off ≡ less_half (biased w + off) = ap (λ (d : ℤ). back d off) (signed_half w h) ∙ half_back (biased w) off in
-      rw (e, half_out (biased w + off) l)
+  -- more, where it does not go above 65,535
+  pub put : (n : ℕ) → n ≡ biased w → (r : Option ℕ) → SomeIff r (n + off < 65536) (n + off) → option_map biased r ≡ shifted back off w
+  unfolding shifted
+  put n e (Some k) h = rw (h.1, e) (shifted_to back (biased w + off) back_is (omega arith))
+  put n e None h = rw (back_is, half_out (biased w + off) (omega arith))
 
--- 4. The code's two halves of a biased number
-
-pub bias_low : (n : ℕ) → n < 32768 → (n + 32768 ≡ biased n) × (n + 32768 ≤ 65535)
-unfolding biased
-bias_low n h = (rw (biased, lt-ltb n 32768 h), omega arith)
-
-pub bias_high : (n : ℕ) → 32768 ≤ n → n ≤ 65535 → (n - 32768 ≡ biased n) × (n - 32768 ≤ 65535)
-unfolding biased
-bias_high n h l = (rw (biased, le-ltb n 32768 h), omega arith)
-
--- 5. What is taken off a tag that is in no entry
-
-pub less_none : (ls : List Less) (t : ℕ) → Each (λ l. t ≡ l.tag → ⊥) ls → less_in ls t ≡ record { tag = t; first = 0; second = 0 }
-unfolding less_in
-less_none [] t h = refl
-less_none (l ∷ ls) t h = rw (ne_eqb l.tag t (λ e. h.0 (sym e))) (less_none ls t h.1)
-
--- 6. A field, by whether it carries a label and by the way
-
-pub field_same : (way : way.Way) (b : Bool) (off k x w : ℕ) → b ≡ false → made w ≡ move_field (way_is way) b off k x w
-unfolding move_field
-field_same way b off k x w h = rw h
-
-module _ (way : way.Way) (b : Bool) (off k x w n : ℕ) (h : w < 65536) (c : b ≡ true) (e : n ≡ biased w) where
-  pub taken_is : way ≡ There → off ≤ n → (m : ℕ) → m ≡ biased (n - off) → made m ≡ move_field (way_is way) b off k x w
-  taken_is d l m q = rw (d, c, q, e) (taken w off k x (omega arith) (rw e at l))
-
-  pub taken_no : way ≡ There → n < off → off ≤ 11 → refusal 33 k x ≡ move_field (way_is way) b off k x w
-  taken_no d l f = rw (d, c) (taken_not w off k x (omega arith) (rw e at l) f)
-
-  pub put_is : way ≡ Back → n ≤ 65535 - off → off ≤ 11 → (m : ℕ) → m ≡ biased (n + off) → made m ≡ move_field (way_is way) b off k x w
-  put_is d l f m q = rw (d, c, q, e) (put w off k x (omega arith) (omega (arith, e)))
-
-  pub put_no : way ≡ Back → 65535 - off < n → off ≤ 11 → refusal 33 k x ≡ move_field (way_is way) b off k x w
-  put_no d l f = rw (d, c) (put_not w off k x (omega arith) (omega (arith, e)))
+-- or 33
+pub moved_is : (way : Way) (off k x w : ℕ) → answer (ok_or (shifted way off w) (record { reason = reason.Field; place = k; extra = x })) ≡ move_field way true off k x w
+unfolding shifted answer move_field checked
+moved_is way off k x w = go (way (signed w) off)
+  where
+    go : (d : ℤ) → answer (ok_or (cond (in_range d) (Some (word d)) None) (record { reason = reason.Field; place = k; extra = x })) ≡ checked (in_range d) 33 k x (made (word d))
+    go d = elim (in_range d) as (λ b. answer (ok_or (cond b (Some (word d)) None) (record { reason = reason.Field; place = k; extra = x })) ≡ checked b 33 k x (made (word d))) [ true ↦ refl | false ↦ refl ]

@@ -1,7 +1,7 @@
 -- Laws that belong to no one function, and the theorems.
-mod FieldLaws
-mod RecordLaws
-mod PassLaws
+pub mod LessLaws
+pub mod FieldLaws
+pub mod PassLaws
 mod Moved
 pub mod Trips
 pub mod Never

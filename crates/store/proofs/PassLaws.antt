@@ -1,26 +1,27 @@
--- Moving as a pass over the records of a listing. Assumes nothing.
-use Prim.Native.Nat.{ℕ, suc}
-use mathlib.Core.Path.{◌≡◌, refl}
+-- Storing and the way back as passes that map the fields of records. Assumes nothing.
+use Prim.Native.Nat.{ℕ, suc, ◌+◌}
+use mathlib.Core.Path.{◌≡◌, refl, ap}
 use mathlib.Core.List.{List, [], ◌∷◌}
-use Rattle.definitions.specs.Answer.{made, onward}
-use Rattle.definitions.specs.Tag.{row_of}
-use Rattle.definitions.specs.Instr.{Instr}
-use Rattle.definitions.specs.Stored.{Way, less_of, move_field, move_record, move_records}
-use Rattle.resolve.proofs.Passes.{Mapping, first_then_second, Pass}
+use Rattle.definitions.specs.Answer.{onward}
+use Rattle.definitions.specs.Instr.{Instr, size}
+use Rattle.definitions.specs.Listing.{read_listing}
+use Rattle.definitions.specs.Resolve.{fitting}
+use Rattle.definitions.specs.Stored.{Way, move_field, move_record, move_records, move}
+use Rattle.laws.proofs.Results.{onward_same}
+use Rattle.resolve.specs.Mapping.{map_field, map_record, map_records, rewrite}
+use Rattle.resolve.proofs.PassLaws.{record_maps}
+use Rattle.store.specs.Values.{moved}
 
-pub move_mapped : (way : Way) (start n : ℕ) (i : Instr) → Mapping i (move_record way n i)
-unfolding move_record
-move_mapped way start n i =
-    first_then_second (move_field way (row_of i.tag).first (less_of i.tag).first n 0 i.first) (move_field way (row_of i.tag).second (less_of i.tag).second n 1 i.second)
-
-pub move_none : (way : Way) (start n : ℕ) → move_records way n [] ≡ made []
-unfolding move_records
-move_none way start n = refl
-
-pub move_more : (way : Way) (start n : ℕ) (i : Instr) (is : List Instr) → move_records way n (i ∷ is) ≡ onward (move_record way n i) (λ r. onward (move_records way (suc n) is) (λ rs. made (r ∷ rs)))
-unfolding move_records
-move_more way start n i is = refl
+moves_record : (way : Way) (start k : ℕ) (i : Instr) → map_record (moved way) start k i ≡ move_record way k i
+unfolding map_field move_field move_record
+moves_record way start k i = record_maps (moved way) start k i
 
 -- where a record starts does not matter
-abbrev pub move_pass : (way : Way) → Pass
-move_pass way = record { one = λ start n i. move_record way n i; all = λ start n is. move_records way n is; none = move_none way; more = move_more way; mapped = move_mapped way }
+pub moves_records : (way : Way) (start k : ℕ) (is : List Instr) → map_records (moved way) start k is ≡ move_records way k is
+unfolding map_records move_records
+moves_records way start k [] = refl
+moves_records way start k (i ∷ is) = rw (moves_record way start k i, moves_records way (start + size i) (suc k) is)
+
+pub moves : (way : Way) (s : List ℕ) (space : ℕ) → rewrite (moved way) s space ≡ move way s space
+unfolding rewrite move onward
+moves way s space = onward_same (read_listing s) _ _ (λ is _. ap (λ r. onward r (fitting space)) (moves_records way 0 0 is))
