@@ -1,23 +1,18 @@
 -- The crate's form and answers, in the words of the definitions.
+use Rattle.std.specs.Prelude as std
 use Rattle.std.specs.Prelude.{ℕ, ◌≡◌, List, length, ℤ, pos}
 use Rattle.definitions.specs.Answer.{Result, made, refusal}
 use Rattle.definitions.specs.Resolve.{signed}
 use Rattle.definitions.specs.Text.{over_if}
+use Rattle.instr.specs.declared.refusals.Refusal.{Refusal}
+use Rattle.instr.specs.Refusals.{answer}
 use Rattle.print.specs.declared.Form.{Form}
 use Rattle.print.specs.declared.Form.TheVariants.{Distances, Labels}
-use Rattle.print.specs.declared.Text.{Text}
-use Rattle.print.specs.declared.Text.TheVariants.{Done, Bad, Short}
 
 -- the number that is shown of a record's first or second
 unfoldable pub sign_of : Form → (w : ℕ) → ℤ
 sign_of Distances w = signed w
 sign_of Labels w = pos w
-
--- an answer: the text's length, or document 01's number, place and extra
-unfoldable pub text_is : Text → Result ℕ
-text_is (Done n) = made n
-text_is Bad = refusal 30 0 0
-text_is Short = refusal 20 0 0
 
 -- the length in place of the text
 unfoldable pub measured : Result (List ℕ) → Result ℕ
@@ -25,6 +20,6 @@ measured (made t) = made (length t)
 measured (refusal n p x) = refusal n p x
 
 -- the answer for a text or a refusal, and what the lent buffer holds then: the text over what stood there, or all as it was
-pub record Answers (t : Result (List ℕ)) (r : Text) (before after : List ℕ) : Type 0 where
-  pub number : text_is r ≡ measured t
+pub record Answers (t : Result (List ℕ)) (r : std.Result ℕ Refusal) (before after : List ℕ) : Type 0 where
+  pub number : answer r ≡ measured t
   pub bytes : after ≡ over_if t before

@@ -1,8 +1,13 @@
 -- The first line, then those of the records.
+use mathlib.Core.Path.{sym, ◌∙◌}
+use Rattle.std.proofs.Common.{rules}
 use Rattle.definitions.specs.Text.{letters, fields, text}
-use Rattle.print.proofs.WriteLaws.{both, field}
+use Rattle.print.proofs.WriteLaws.{both, field, filled}
 use Rattle.print.proofs.code.Goals as goal
 
 pub returns : goal.returns
 unfolding text fields letters
-returns c = both (both c.word-first.ensures (field c.decimal-second.ensures c.decimal-from.ensures.wrote)) c.lines.ensures
+returns c =
+    let w = both (both c.word.ensures (field c.decimal.ensures c.decimal-2.ensures.wrote)) c.lines.ensures in
+    let same = sym (w.buffer ∙ c.new-page.ensures.buffer) in
+    rw c.at.ensures (filled c.new-page.ensures.start.0 c.new-page.ensures.start.1 w (search (rules, same)))

@@ -1,8 +1,13 @@
 -- The word, then one field after another.
+use mathlib.Core.Path.{sym, ◌∙◌}
+use Rattle.std.proofs.Common.{rules}
 use Rattle.definitions.specs.Text.{letters, fields, text}
-use Rattle.print.proofs.WriteLaws.{both, field}
+use Rattle.print.proofs.WriteLaws.{both, field, filled}
 use Rattle.print.proofs.refusal.Goals as goal
 
 pub returns : goal.returns
 unfolding text fields letters
-returns c = both c.word-first.ensures (field c.decimal-second.ensures (field c.decimal-third.ensures c.decimal.ensures.wrote))
+returns c =
+    let w = both c.word.ensures (field c.decimal.ensures (field c.decimal-2.ensures c.decimal-3.ensures.wrote)) in
+    let same = sym (w.buffer ∙ c.new-page.ensures.buffer) in
+    rw c.at.ensures (filled c.new-page.ensures.start.0 c.new-page.ensures.start.1 w (search (rules, same)))
