@@ -1,5 +1,6 @@
 -- The flags of a call's arguments. Assumes nothing.
 use Rattle.std.proofs.Common.{◌≡◌, ℕ, zero, suc, ◌+◌, ◌*◌, ◌%◌, ◌^◌, ◌<◌, ◌≤◌, Bool, true, false, cond, not, ◌||◌, ltb, List, [], ◌∷◌, get_or, sym, refl, ap, ◌∙◌, arith}
+use Rattle.std.specs.Prelude as std
 use Rattle.definitions.specs.Answer.{ok}
 use Rattle.definitions.specs.Bytes.{number}
 use Rattle.definitions.specs.Instr.{record_bytes}
@@ -8,14 +9,14 @@ use Rattle.definitions.specs.Read.{parse_expr}
 use Rattle.definitions.specs.Code.{Code, ◌then◌}
 use Rattle.definitions.specs.Tag.{InvokeStatic, InvokeVirtual}
 use Rattle.definitions.specs.Lower.{is_flagged, flags_of, require_flags, require, invoke, emit_invoke}
+use Rattle.instr.specs.declared.refusals.Refusal.{Refusal}
 use Rattle.ir.specs.Places.{end_of}
 use Rattle.ir.specs.Args.{flagged_at}
 use Rattle.ir.proofs.ArgLaws.{flagged_read, place_is}
 use Rattle.ir.proofs.Inversion.{expr_at, expr_moves, fill_none}
-use Rattle.steps.specs.Walked.{Accepted, list_of, exprs_from, callee_at, Emitted, Left}
-use Rattle.steps.specs.declared.Walk.{Walk}
+use Rattle.steps.specs.Walked.{Accepted, list_of, exprs_from, callee_at, EmittedFrom, LeftFrom, Walk}
 use Rattle.steps.proofs.StepLaws.{recode, emit_alike, bytes_cut}
-use Rattle.steps.proofs.RunLaws.{Goes, goes_start, goes_on, goes_end, one_step, renamed, Turn, turn, listed}
+use Rattle.steps.proofs.RunLaws.{Goes, goes_start, goes_on, goes_end, goes_stops, one_step, renamed, Turn, turn, listed}
 
 -- 1. The check
 
@@ -54,7 +55,7 @@ unfolding require_flags exprs_of
 flags_cons x xs k = refl
 
 pub flags_next : {d : ℕ} {s : List ℕ} {end : ℕ} {code : Code} {w : Walk} {i k : ℕ} {v : Walk} → FlagsRest d s end code w i k v → i < end → (flagged fits : Bool) (next : ℕ) (v₂ : Walk) →
-    flagged ≡ flagged_at s i → fits ≡ (not flagged || ltb k 16) → Left (require fits 13 i (k + 1)) v v₂ → next ≡ end_of s i → FlagsRest d s end code w next (k + 1) v₂
+    flagged ≡ flagged_at s i → fits ≡ (not flagged || ltb k 16) → LeftFrom (require fits 13 i (k + 1)) v v₂ → next ≡ end_of s i → FlagsRest d s end code w next (k + 1) v₂
 flags_next {d} {s} {end} {i = i} {k = k} {v = v} r h flagged fits next v₂ tells f l e =
     let t = arg_turn d s end i r.acc h in
     let b = others_are d s end i next r.acc h e in
@@ -68,9 +69,12 @@ flags_next {d} {s} {end} {i = i} {k = k} {v = v} r h flagged fits next v₂ tell
       goes = λ o m. goes_on (r.goes o m) (goes_on (renamed v o m (ap (λ xs. require_flags (exprs_of xs) k) b.3 ∙ flags_cons t.item _ k)) (one_step _ (recode c (l.did o m))));
     }
 
-pub flags_end : {d : ℕ} {s : List ℕ} {end : ℕ} {code : Code} {w : Walk} {i k : ℕ} {v : Walk} → FlagsRest d s end code w i k v → end ≤ i → Left code w v
+pub flags_end : {d : ℕ} {s : List ℕ} {end : ℕ} {code : Code} {w : Walk} {i k : ℕ} {v : Walk} → FlagsRest d s end code w i k v → end ≤ i → LeftFrom code w v
 unfolding require_flags exprs_of list_of
 flags_end {d} {s} {end} {i = i} {k = k} {v = v} r h = record { did = λ o m. goes_end (goes_on (r.goes o m) (renamed v o m (ap (λ xs. require_flags (exprs_of xs) k) (none_left d s end i r.acc h)))) }
+
+pub flags_stop : {d : ℕ} {s : List ℕ} {end : ℕ} {code : Code} {w : Walk} {i k : ℕ} {e : Refusal} → FlagsRest d s end code w i k (std.Err e) → LeftFrom code w (std.Err e)
+flags_stop r = record { did = λ o m. goes_stops (r.goes o m) }
 
 -- 2. The bits
 
@@ -127,22 +131,22 @@ bits_end {d} {s} {end} {all} {i} {bit} r h =
 
 -- 3. The invoke, whose flags are sixteen bits
 
-invoke_cut : (at t l n f v : ℕ) {g : ℕ} {w r : Walk} {o o' : List ℕ} → g ≡ f % 2 ^ 16 → Emitted (invoke at t l n g v) w o r o' → Emitted (invoke at t l n f v) w o r o'
+invoke_cut : (at t l n f v : ℕ) {g : ℕ} {w r : Walk} {o o' : List ℕ} → g ≡ f % 2 ^ 16 → EmittedFrom (invoke at t l n g v) w o r o' → EmittedFrom (invoke at t l n f v) w o r o'
 unfolding record_bytes
 invoke_cut at t l n f v e d = emit_alike (rw (e, bytes_cut f)) refl d
 
-static_code : (site b exit line flags function name : ℕ) {w r : Walk} {o o' : List ℕ} → (b ≡ 0 → ⊥) → Emitted (invoke site InvokeStatic exit line flags function) w o r o' → Emitted (emit_invoke site b exit line flags function name) w o r o'
+static_code : (site b exit line flags function name : ℕ) {w r : Walk} {o o' : List ℕ} → (b ≡ 0 → ⊥) → EmittedFrom (invoke site InvokeStatic exit line flags function) w o r o' → EmittedFrom (emit_invoke site b exit line flags function name) w o r o'
 unfolding emit_invoke
 static_code site zero exit line flags function name h d = absurd (h refl)
 static_code site (suc b) exit line flags function name h d = d
 
 module _ (s : List ℕ) (at site exit line flags : ℕ) {g : ℕ} {w r : Walk} {o o' : List ℕ} (e : g ≡ flags % 2 ^ 16) (n : line ≡ number 2 s (at + 8)) where
-  pub invoke_virtual_law : (name : ℕ) → get_or s (at + 10) 0 ≡ 0 → name ≡ number 4 s (at + 4) → Emitted (invoke site InvokeVirtual exit line g name) w o r o' →
-      Emitted (emit_invoke site (callee_at s at).flags exit (callee_at s at).line flags (callee_at s at).function (callee_at s at).name) w o r o'
+  pub invoke_virtual_law : (name : ℕ) → get_or s (at + 10) 0 ≡ 0 → name ≡ number 4 s (at + 4) → EmittedFrom (invoke site InvokeVirtual exit line g name) w o r o' →
+      EmittedFrom (emit_invoke site (callee_at s at).flags exit (callee_at s at).line flags (callee_at s at).function (callee_at s at).name) w o r o'
   unfolding emit_invoke callee_at
   invoke_virtual_law name z h d = rw (z, ← h, ← n) (invoke_cut site InvokeVirtual exit line flags name e d)
 
-  pub invoke_static_law : (function : ℕ) → (get_or s (at + 10) 0 ≡ 0 → ⊥) → function ≡ number 4 s at → Emitted (invoke site InvokeStatic exit line g function) w o r o' →
-      Emitted (emit_invoke site (callee_at s at).flags exit (callee_at s at).line flags (callee_at s at).function (callee_at s at).name) w o r o'
+  pub invoke_static_law : (function : ℕ) → (get_or s (at + 10) 0 ≡ 0 → ⊥) → function ≡ number 4 s at → EmittedFrom (invoke site InvokeStatic exit line g function) w o r o' →
+      EmittedFrom (emit_invoke site (callee_at s at).flags exit (callee_at s at).line flags (callee_at s at).function (callee_at s at).name) w o r o'
   unfolding callee_at
   invoke_static_law function z h d = rw (← h, ← n) (static_code site _ exit line flags function _ z (invoke_cut site InvokeStatic exit line flags function e d))

@@ -1,5 +1,5 @@
 pub mod StepLaws
 pub mod RunLaws
-mod LeafLaws
+pub mod LeafLaws
 mod FlagLaws
 pub mod HeadLaws

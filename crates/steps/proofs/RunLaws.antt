@@ -1,11 +1,13 @@
 -- A run that a loop goes through, item by item. Assumes nothing.
 use Rattle.std.proofs.Common.{◌≡◌, ℕ, zero, suc, ◌+◌, ◌-◌, ◌<◌, ◌≤◌, List, [], ◌∷◌, ◌++◌, length, get_or, sym, refl, ap, ◌∙◌, arith}
 use mathlib.Core.Option.{none}
+use Rattle.std.specs.Prelude as std
 use Rattle.definitions.specs.Answer.{Answer, ok, onward}
 use Rattle.definitions.specs.Tree.{Expr, Stmt, exprs_of, block_of}
 use Rattle.definitions.specs.Read.{Parser, filling, parse_expr, parse_stmt}
 use Rattle.definitions.specs.Code.{Code, done, act, new, label, ◌then◌}
 use Rattle.definitions.specs.Lower.{BlockSpan, lower_expr, lower_args, lower_arg, lower_stmt}
+use Rattle.instr.specs.declared.refusals.Refusal.{Refusal}
 use Rattle.ir.specs.Class.{TreeOf, node_of}
 use Rattle.ir.specs.Places.{end_of}
 use Rattle.ir.specs.declared.Class.{Class}
@@ -13,8 +15,7 @@ use Rattle.ir.specs.declared.Class.TheVariants.{Statement, Expression}
 use Rattle.ir.proofs.Wider.{expr_wider, node_wider, fill_on}
 use Rattle.ir.proofs.Inversion.{fill_some, fill_none, fill_nil, fill_cons, expr_at, stmt_at, expr_moves, stmt_moves}
 use Rattle.steps.specs.Running.{run}
-use Rattle.steps.specs.Walked.{Accepted, code_of, ran, labels_of, lower_of, lower_all, node_code, fill_code, expr_code, exprs_from, args_code, list_of, marks_from, Called, Nops, Did}
-use Rattle.steps.specs.declared.Walk.{Walk}
+use Rattle.steps.specs.Walked.{Accepted, code_of, ran, labels_of, lower_of, lower_all, node_code, fill_code, expr_code, exprs_from, args_code, list_of, marks_from, Called, NopsFrom, Ran, Walk}
 use Rattle.laws.proofs.Results.{onward_assoc, onward_made, onward_same}
 use Rattle.steps.proofs.StepLaws.{fresh_same, recode, SameRun, same_assoc, same_right, same_left, same_on, same_back, same_code, same_done, same_end}
 
@@ -33,12 +34,12 @@ pub goes_on : {p q r : Code} {w v z : Walk} {o m o₁ m₁ o₂ m₂ : List ℕ}
 goes_on a b = record { same = b.same ∙ a.same; outs = b.outs ∙ a.outs; marked = b.marked ∙ a.marked }
 
 -- the first of two pieces is done
-pub one_step : {p : Code} (q : Code) {w v : Walk} {o m o' m' : List ℕ} → Did p w o m v o' m' → Goes (p then q) w o m q v o' m'
+pub one_step : {p : Code} (q : Code) {w v : Walk} {o m o' m' : List ℕ} → Ran p w o m v o' m' → Goes (p then q) w o m q v o' m'
 unfolding run
 one_step {p} q {w = w} {o = o} {m = m} d = record { same = ap (λ x. onward x (run q)) d.same ∙ onward_assoc (ran w o m) (run p) (run q); outs = d.outs; marked = d.marked }
 
 -- a fresh label is made
-pub fresh_step : (at : ℕ) (k : ℕ → Code) (l : ℕ) {w v : Walk} {o m o' m' : List ℕ} → l ≡ labels_of w → Did (act (new at)) w o m v o' m' → Goes (label at k) w o m (k l) v o' m'
+pub fresh_step : (at : ℕ) (k : ℕ → Code) (l : ℕ) {w v : Walk} {o m o' m' : List ℕ} → l ≡ labels_of w → Ran (act (new at)) w o m v o' m' → Goes (label at k) w o m (k l) v o' m'
 fresh_step at k l {w = w} {o = o} {m = m} e d = record { same = ap (λ x. onward x (run (k l))) d.same ∙ fresh_same at k w o m l e; outs = d.outs; marked = d.marked }
 
 -- the same code by another name
@@ -50,13 +51,18 @@ pub goes_same : {p q : Code} (w : Walk) (o m : List ℕ) → SameRun p q → Goe
 goes_same {p} {q} w o m h = record { same = onward_same (ran w o m) (run q) (run p) (λ c _. sym (h.alike c)); outs = refl; marked = refl }
 
 -- nothing is left
-pub goes_end : {p : Code} {w v : Walk} {o m o' m' : List ℕ} → Goes p w o m done v o' m' → Did p w o m v o' m'
+pub goes_end : {p : Code} {w v : Walk} {o m o' m' : List ℕ} → Goes p w o m done v o' m' → Ran p w o m v o' m'
 unfolding run
 goes_end {v = v} {o' = o'} {m' = m'} g = record { same = sym (onward_made (ran v o' m')) ∙ g.same; outs = g.outs; marked = g.marked }
 
 -- the last piece is done
-pub goes_last : {p q : Code} {w v z : Walk} {o m o₁ m₁ o₂ m₂ : List ℕ} → Goes p w o m q v o₁ m₁ → Did q v o₁ m₁ z o₂ m₂ → Did p w o m z o₂ m₂
+pub goes_last : {p q : Code} {w v z : Walk} {o m o₁ m₁ o₂ m₂ : List ℕ} → Goes p w o m q v o₁ m₁ → Ran q v o₁ m₁ z o₂ m₂ → Ran p w o m z o₂ m₂
 goes_last g d = record { same = d.same ∙ g.same; outs = d.outs ∙ g.outs; marked = d.marked ∙ g.marked }
+
+-- it was refused
+pub goes_stops : {p : Code} {q : Code} {w : Walk} {e : Refusal} {o m o' m' : List ℕ} → Goes p w o m q (std.Err e) o' m' → Ran p w o m (std.Err e) o' m'
+unfolding ran onward
+goes_stops g = record { same = g.same; outs = g.outs; marked = g.marked }
 
 -- 2. The loop
 
@@ -155,7 +161,7 @@ all_append class span (x ∷ xs) ys =
 module _ (class : Class) (d : ℕ) (s : List ℕ) (span : BlockSpan) (code : Code) (end : ℕ) (w : Walk) (o m : List ℕ) (i : ℕ) (v : Walk) (o₁ m₁ : List ℕ) (v₂ : Walk) (o₂ m₂ : List ℕ) where
   -- the node at i, of which the walk did all that comes before its parts, which begin at `first`
   pub rest_flat : (l : Rest (node_of class d s) (lower_all class span) code end w o m i v o₁ m₁) → i < end → (below stop first : ℕ) (head : Code) → below ≤ d →
-      stop ≡ end_of s i → first ≤ stop → Accepted (filling (node_of class below s) stop first) → SameRun (head then fill_code class below s stop first span) (node_code class d s end i span) → Did head v o₁ m₁ v₂ o₂ m₂ → Rest (node_of class d s) (lower_all class span) code end w o m first v₂ o₂ m₂
+      stop ≡ end_of s i → first ≤ stop → Accepted (filling (node_of class below s) stop first) → SameRun (head then fill_code class below s stop first span) (node_code class d s end i span) → Ran head v o₁ m₁ v₂ o₂ m₂ → Rest (node_of class d s) (lower_all class span) code end w o m first v₂ o₂ m₂
   unfolding code_of
   rest_flat l h below stop first head b e f parts same did =
       let k = turn (node_of class d s) end i (moves class d s end) h l.reads in
@@ -226,7 +232,7 @@ module _ {d : ℕ} {s : List ℕ} {end site : ℕ} {code : Code} {w : Walk} {o m
   pub args_some : 0 < left
   args_some = let k = args_turn in omega (arith, a.enough, ap length (listed _ _ _ a.rest.reads), ap length k.whole)
 
-  pub args_next : (short next : ℕ) (v₂ : Walk) (o₂ m₂ : List ℕ) → short ≡ get_or s p 0 → next ≡ end_of s i → Did (lower_arg site short (expr_code d s end i)) v o₁ m₁ v₂ o₂ m₂ →
+  pub args_next : (short next : ℕ) (v₂ : Walk) (o₂ m₂ : List ℕ) → short ≡ get_or s p 0 → next ≡ end_of s i → Ran (lower_arg site short (expr_code d s end i)) v o₁ m₁ v₂ o₂ m₂ →
       ArgsRest d s end site code w o m (p + 1) (left - 1) next v₂ o₂ m₂
   args_next short next v₂ o₂ m₂ e f g =
       let k = args_turn in
@@ -239,7 +245,7 @@ module _ {d : ℕ} {s : List ℕ} {end site : ℕ} {code : Code} {w : Walk} {o m
       }
 
 pub args_end : {d : ℕ} {s : List ℕ} {end site : ℕ} {code : Code} {w : Walk} {o m : List ℕ} {p left i : ℕ} {v : Walk} {o₁ m₁ : List ℕ} {z : Walk} {o₂ : List ℕ} → ArgsRest d s end site code w o m p left i v o₁ m₁ → end ≤ i →
-    Nops site left v o₁ z o₂ → Did code w o m z o₂ m₁
+    NopsFrom site left v o₁ z o₂ → Ran code w o m z o₂ m₁
 unfolding lower_expr exprs_of
 args_end {d} {s} {end} {p = p} {left = left} {m₁ = m₁} a h n = goes_last (rest_end _ _ _ _ _ _ _ _ _ _ _ (expr_moves d s end) h a.rest) ((n (marks_from s p left) (marks_long s p left)).did m₁)
 

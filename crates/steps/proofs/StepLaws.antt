@@ -2,6 +2,7 @@
 use Rattle.std.proofs.Common.{◌≡◌, ℕ, zero, suc, ◌+◌, ◌-◌, ◌/◌, ◌%◌, ◌^◌, ◌<◌, ◌≤◌, Bool, true, false, cond, leb, List, [], ◌∷◌, ◌++◌, length, take, drop, set, sym, refl, ap, ◌∙◌, append-nil, arith, length-drop, length-set, drop_of_length-le, take_all, drop-drop, le-ltb, lt-ltb, le-leb, leb-false, leb-true}
 use borrow.Author.Tests.{lt-leb}
 use borrow.Rule.Slice.PartMut.{put_mid}
+use Rattle.std.specs.Prelude as std
 use Rattle.definitions.specs.Bytes.{bytes}
 use Rattle.definitions.specs.Tag.{tag_size, row_of, WeakRefToRef, Nop}
 use Rattle.definitions.specs.Tag as definitions
@@ -14,61 +15,88 @@ use Rattle.instr.specs.declared.tables.Row.{Row}
 use Rattle.definitions.specs.Answer.{onward, checked}
 use Rattle.laws.proofs.Sizes.{size_is}
 use Rattle.laws.proofs.Results.{onward_assoc, onward_made, onward_same}
+use Rattle.instr.specs.declared.refusals.Reason as reasons
+use Rattle.instr.specs.declared.refusals.Reason.TheVariants as reason
+use Rattle.instr.specs.declared.refusals.Refusal.{Refusal}
+use Rattle.instr.specs.Refusals.{number_of}
+use Rattle.std.proofs.lemmas.Result.{err_from_is_err_and}
 use Rattle.steps.specs.Running.{Cells, put, set_made, move, run}
 use Rattle.steps.specs.Counting.{emitted_of, labelled_of, listed, unmarked_at, marked_at}
 use Rattle.ir.specs.declared.Class.{Class}
-use Rattle.steps.specs.Walked.{fill_code, group_label, open_code, ran, labels_of, target_of, Did, Emitted, Labelled, Left}
-use Rattle.steps.specs.declared.Counters.{Counters}
-use Rattle.steps.specs.declared.Target.{Target}
-use Rattle.steps.specs.declared.Target.TheVariants.{Nowhere, Label}
-use Rattle.steps.specs.declared.Walk.{Walk}
-use Rattle.steps.specs.declared.Walk.TheVariants.{Going, Stopped}
+use Rattle.steps.specs.Walked.{fill_code, group_label, open_code, mark_if, Made, Opened, MarksIf, after, ran, labels_of, target_of, Ran, EmittedFrom, LabelledFrom, LeftFrom, Walk}
+use Rattle.steps.specs.declared.counters.Counters.{Counters}
 
 -- 1. Single steps
 
 -- a walk that has stopped does nothing
-pub stays : (code : Code) (w : Walk) (o m : List ℕ) (n : _) → w ≡ Stopped n → Did code w o m w o m
+pub stays : (code : Code) (w : Walk) (o m : List ℕ) (n : _) → w ≡ std.Err n → Ran code w o m w o m
 unfolding ran onward
 stays code w o m n e = rw e (record { same = refl; outs = refl; marked = refl })
 
-pub emit_stays : (code : Code) (w : Walk) (o : List ℕ) (n : _) → w ≡ Stopped n → Emitted code w o w o
+pub emit_stays : (code : Code) (w : Walk) (o : List ℕ) (n : _) → w ≡ std.Err n → EmittedFrom code w o w o
 emit_stays code w o n e = record { did = λ m. stays code w o m n e }
 
-pub label_stays : (code : Code) (w : Walk) (m : List ℕ) (n : _) → w ≡ Stopped n → Labelled code w m w m
+pub label_stays : (code : Code) (w : Walk) (m : List ℕ) (n : _) → w ≡ std.Err n → LabelledFrom code w m w m
 label_stays code w m n e = record { did = λ o. stays code w o m n e }
 
-pub all_stays : (code : Code) (w : Walk) (n : _) → w ≡ Stopped n → Left code w w
+pub all_stays : (code : Code) (w : Walk) (n : _) → w ≡ std.Err n → LeftFrom code w w
 all_stays code w n e = record { did = λ o m. stays code w o m n e }
 
 abbrev cells : Counters → List ℕ → List ℕ → Cells
 cells k o m = record { offset = k.offset; labels = k.labels; count = k.count; out = o; marks = m }
 
 -- an action, of a walk that is going
-acts : (a : Action) (w : Walk) (k : Counters) (o m : List ℕ) (r : Walk) (o' m' : List ℕ) → w ≡ Going k →
-    ran r o' m' ≡ move a (cells k o m) → length o' ≡ length o → length m' ≡ length m → Did (act a) w o m r o' m'
+acts : (a : Action) (w : Walk) (k : Counters) (o m : List ℕ) (r : Walk) (o' m' : List ℕ) → w ≡ std.Ok k →
+    ran r o' m' ≡ move a (cells k o m) → length o' ≡ length o → length m' ≡ length m → Ran (act a) w o m r o' m'
 unfolding ran onward run
 acts a w k o m r o' m' e q u v = rw e (record { same = q; outs = u; marked = v })
 
-pub mark_did : (w : Walk) (k d : Counters) (m : List ℕ) (l : ℕ) (m' : List ℕ) → w ≡ Going k → d ≡ k → m' ≡ marked_at k l m → length m' ≡ length m → Labelled (act (mark l)) w m (Going d) m'
+-- nothing was to be done
+pub nothing : {w : Walk} {o m : List ℕ} → Ran done w o m w o m
+unfolding run
+nothing {w = w} {o = o} {m = m} = record { same = sym (onward_made (ran w o m)); outs = refl; marked = refl }
+
+pub mark_did : (k : Counters) (m : List ℕ) (l : ℕ) (m' : List ℕ) → m' ≡ marked_at k l m → length m' ≡ length m → LabelledFrom (act (mark l)) (std.Ok k) m (std.Ok k) m'
 unfolding ran move
-mark_did w k d m l m' e f q u = record { did = λ o. acts _ w k o m (Going d) o m' e (rw (f, q)) refl u }
+mark_did k m l m' q u = record { did = λ o. acts _ _ k o m (std.Ok k) o m' refl (rw q) refl u }
 
 -- below the limit the sum is the definition's
-pub new_did : (w : Walk) (k d : Counters) (m : List ℕ) (at : ℕ) (m' : List ℕ) → k.labels < 65536 → w ≡ Going k → d ≡ labelled_of k → m' ≡ unmarked_at k m →
-    Labelled (act (new at)) w m (Going d) m'
+pub new_made : (at : ℕ) (k d : Counters) (m m' : List ℕ) → k.labels < 65536 → d ≡ labelled_of k → m' ≡ unmarked_at k m → Made at k m (std.Ok k.labels) d m'
 unfolding ran move label_limit checked
-new_did w k d m at m' h e f q =
+new_made at k d m m' h f q =
     let n : (k.labels + 1) % 2 ^ 32 ≡ k.labels + 1 = omega arith in
-    record { did = λ o. acts _ w k o m _ o m' e (rw (f, q, n, move, lt-ltb k.labels 65536 h, checked)) refl (ap length q ∙ simp length-set) }
+    record {
+      did = record { did = λ o. acts _ _ k o m _ o m' refl (rw (f, q, n, move, lt-ltb k.labels 65536 h, checked)) refl (ap length q ∙ simp length-set) };
+      number = refl;
+      few = h;
+    }
 
-pub new_stopped : (w : Walk) (k : Counters) (m : List ℕ) (at : ℕ) → 65536 ≤ k.labels → w ≡ Going k →
-    Labelled (act (new at)) w m (Stopped (record { number = 15; place = at; extra = 0 })) m
+pub new_refused : (at : ℕ) (k : Counters) (m : List ℕ) → 65536 ≤ k.labels → Made at k m (std.Err (record { reason = reason.Labels; place = at; extra = 0 })) k m
 unfolding ran move label_limit checked
-new_stopped w k m at h e = record { did = λ o. acts _ w k o m _ o m e (rw (move, le-ltb k.labels 65536 h, checked)) refl refl }
+new_refused at k m h = record { did = record { did = λ o. acts _ _ k o m _ o m refl (rw (move, le-ltb k.labels 65536 h, checked)) refl refl }; number = tt; few = tt }
 
-pub refuse_did : (w : Walk) (k : Counters) (n p x : ℕ) → w ≡ Going k → Left (act (refuse n p x)) w (Stopped (record { number = n; place = p; extra = x }))
+-- the label of a group that is open, and of one that is not
+pub group_open : (group : std.Option ℕ) (at : ℕ) (k : Counters) (m : List ℕ) (l : ℕ) → group ≡ std.Some l → Opened group at k m (std.Ok l) k m
+unfolding open_code group_label
+group_open group at k m l e = rw e (record { did = record { did = λ o. nothing }; number = refl })
+
+pub group_opened : (group : std.Option ℕ) (at : ℕ) (k : Counters) (m : List ℕ) (r : std.Result ℕ _) (d : Counters) (m' : List ℕ) → group ≡ std.None → Made at k m r d m' → Opened group at k m r d m'
+unfolding open_code group_label labels_of
+group_opened group at k m r d m' e a = rw e (record { did = a.did; number = a.number })
+
+-- a mark, where it is to be made
+pub marks_some : (here l : ℕ) (k : Counters) (m m' : List ℕ) → (here ≡ 0 → ⊥) → m' ≡ marked_at k l m → length m' ≡ length m → MarksIf here l k m m'
+unfolding mark_if
+marks_some zero l k m m' h q u = absurd (h refl)
+marks_some (suc n) l k m m' h q u = mark_did k m l m' q u
+
+pub marks_none : (here l : ℕ) (k : Counters) (m : List ℕ) → here ≡ 0 → MarksIf here l k m m
+unfolding mark_if
+marks_none here l k m e = rw e (record { did = λ o. nothing })
+
+pub refuse_did : (k : Counters) (r : reasons.Reason) (p x : ℕ) → LeftFrom (act (refuse (number_of r) p x)) (std.Ok k) (std.Err (record { reason = r; place = p; extra = x }))
 unfolding ran move
-refuse_did w k n p x e = record { did = λ o m. acts _ w k o m _ o m e refl refl refl }
+refuse_did k r p x = record { did = λ o m. acts _ _ k o m _ o m refl refl refl refl }
 
 -- a record whose fields are cut to their widths has the same bytes
 pub bytes_cut : (v : ℕ) → bytes 2 (v % 2 ^ 16) ≡ bytes 2 v
@@ -108,10 +136,10 @@ emitted_is k i size offset count g h n = rw (h, n, g, size_is i)
 pub put_is : (o : List ℕ) (k : ℕ) (i j : Instr) (o' : List ℕ) → j ≡ cut i → o' ≡ put o k j → o' ≡ put o k i
 put_is o k i j o' q p = rw (p, q, put_cut o k i)
 
-pub emit_did : (w : Walk) (k d : Counters) (o : List ℕ) (i : Instr) (o' : List ℕ) → w ≡ Going k → d ≡ emitted_of k i → o' ≡ listed k i o → length o' ≡ length o →
-    Emitted (act (emit i)) w o (Going d) o'
+-- an emitted record, by another name
+pub emit_did : (i : Instr) {k d : Counters} {o o' : List ℕ} {j : Instr} → (d ≡ emitted_of k j) × (o' ≡ listed k j o) → length o' ≡ length o → j ≡ i → EmittedFrom (act (emit i)) (std.Ok k) o (std.Ok d) o'
 unfolding ran move
-emit_did w k d o i o' e f p u = record { did = λ m. acts _ w k o m _ o' m e (rw (f, p)) u refl }
+emit_did i {k} {d} {o} {o'} {j} h u e = record { did = λ m. acts _ _ k o m _ o' m refl (rw (h.0, h.1, e)) u refl }
 
 take_drop_all : (n : ℕ) (l : List ℕ) → take n l ++ drop n l ≡ l
 take_drop_all zero l = refl
@@ -146,12 +174,12 @@ put_in o k i p h e =
 -- 2. Steps in a row
 
 -- the same code by another name
-pub recode : {code code' : Code} {w : Walk} {o m : List ℕ} {r : Walk} {o' m' : List ℕ} → code' ≡ code → Did code w o m r o' m' → Did code' w o m r o' m'
+pub recode : {code code' : Code} {w : Walk} {o m : List ℕ} {r : Walk} {o' m' : List ℕ} → code' ≡ code → Ran code w o m r o' m' → Ran code' w o m r o' m'
 recode e d = record { same = rw e d.same; outs = d.outs; marked = d.marked }
 
 -- a piece after another
 pub both : {p q : Code} {w : Walk} {o m : List ℕ} {r : Walk} {o' m' : List ℕ} {z : Walk} {o'' m'' : List ℕ} →
-    Did p w o m r o' m' → Did q r o' m' z o'' m'' → Did (p then q) w o m z o'' m''
+    Ran p w o m r o' m' → Ran q r o' m' z o'' m'' → Ran (p then q) w o m z o'' m''
 unfolding run
 both {p} {q} {w = w} {o = o} {m = m} a b = record {
   same = b.same ∙ ap (λ x. onward x (run q)) a.same ∙ onward_assoc (ran w o m) (run p) (run q);
@@ -162,47 +190,83 @@ both {p} {q} {w = w} {o = o} {m = m} a b = record {
 pub fresh_same : (at : ℕ) (k : ℕ → Code) (w : Walk) (o m : List ℕ) (l : ℕ) → l ≡ labels_of w →
     onward (onward (ran w o m) (run (act (new at)))) (run (k l)) ≡ onward (ran w o m) (run (label at k))
 unfolding ran onward labels_of run
-fresh_same at k (Going c) o m l e = rw e
-fresh_same at k (Stopped q) o m l e = refl
+fresh_same at k (std.Ok c) o m l e = rw e
+fresh_same at k (std.Err q) o m l e = refl
 
 -- a fresh label, and the code that has it
 pub fresh : (at : ℕ) (k : ℕ → Code) {w : Walk} {o m : List ℕ} {l : ℕ} {w₁ : Walk} {o₁ m₁ : List ℕ} {w₂ : Walk} {o₂ m₂ : List ℕ} →
-    l ≡ labels_of w → Did (act (new at)) w o m w₁ o₁ m₁ → Did (k l) w₁ o₁ m₁ w₂ o₂ m₂ → Did (label at k) w o m w₂ o₂ m₂
+    l ≡ labels_of w → Ran (act (new at)) w o m w₁ o₁ m₁ → Ran (k l) w₁ o₁ m₁ w₂ o₂ m₂ → Ran (label at k) w o m w₂ o₂ m₂
 fresh at k {w = w} {o = o} {m = m} {l = l} e a b = record {
   same = b.same ∙ ap (λ x. onward x (run (k l))) a.same ∙ fresh_same at k w o m l e;
   outs = b.outs ∙ a.outs;
   marked = b.marked ∙ a.marked;
 }
 
--- nothing was to be done
-pub nothing : {w : Walk} {o m : List ℕ} → Did done w o m w o m
-unfolding run
-nothing {w = w} {o = o} {m = m} = record { same = sym (onward_made (ran w o m)); outs = refl; marked = refl }
+-- a refusal, and the code after it
+pub halt : {p : Code} {w : Walk} {o m : List ℕ} {e : Refusal} {o' m' : List ℕ} → Ran p w o m (std.Err e) o' m' → (q : Code) → Ran (p then q) w o m (std.Err e) o' m'
+halt d q = both d (stays q (std.Err _) _ _ _ refl)
 
-pub left : {code : Code} {w r : Walk} {o m : List ℕ} → Left code w r → Did code w o m r o m
+pub fresh_halt : (at : ℕ) (k : ℕ → Code) {w : Walk} {o m : List ℕ} {e : Refusal} {o' m' : List ℕ} → Ran (act (new at)) w o m (std.Err e) o' m' → Ran (label at k) w o m (std.Err e) o' m'
+fresh_halt at k {w = w} d = fresh at k {w = w} refl d (stays (k (labels_of w)) (std.Err _) _ _ _ refl)
+
+-- a label that is made, and the code that has it; or that is refused
+pub made : (at : ℕ) (k : ℕ → Code) {c : Counters} {o m : List ℕ} {l : ℕ} {d : Counters} {m₁ : List ℕ} {w₂ : Walk} {o₂ m₂ : List ℕ} →
+    Made at c m (std.Ok l) d m₁ → Ran (k l) (std.Ok d) o m₁ w₂ o₂ m₂ → Ran (label at k) (std.Ok c) o m w₂ o₂ m₂
+unfolding labels_of
+made at k a b = fresh at k a.number (a.did.did _) b
+
+pub unmade : (at : ℕ) (k : ℕ → Code) {c : Counters} {o m : List ℕ} {e : Refusal} {d : Counters} {m₁ : List ℕ} → Made at c m (std.Err e) d m₁ → Ran (label at k) (std.Ok c) o m (std.Err e) o m₁
+unmade at k a = fresh_halt at k (a.did.did _)
+
+pub numbered : {l : ℕ} (c : Counters) → l ≡ c.labels → l ≡ labels_of (std.Ok c)
+unfolding labels_of
+numbered c e = e
+
+-- a label that lands
+pub marked : {k : Counters} {o m : List ℕ} {l : ℕ} {m' : List ℕ} → m' ≡ marked_at k l m → length m' ≡ length m → Ran (act (mark l)) (std.Ok k) o m (std.Ok k) o m'
+marked q u = (mark_did _ _ _ _ q u).did _
+
+-- what a `?` hands on, with whatever counters
+module _ {A : Type 0} (r : std.Result A Refusal) (q : Refusal) (h : std.IsErrAnd r (λ e. e ≡ q)) (k : Counters) where
+  handed : after r k ≡ std.Err q
+  handed = let p = err_from_is_err_and r h in rw (p.1, p.2)
+
+  pub exit : {code : Code} {w : Walk} {o m : List ℕ} {o' m' : List ℕ} → Ran code w o m (std.Err q) o' m' → Ran code w o m (after r k) o' m'
+  exit d = rw handed d
+
+  pub emit_exit : {code : Code} {w : Walk} {o : List ℕ} {o' : List ℕ} → EmittedFrom code w o (std.Err q) o' → EmittedFrom code w o (after r k) o'
+  emit_exit d = rw handed d
+
+  pub label_exit : {code : Code} {w : Walk} {m : List ℕ} {m' : List ℕ} → LabelledFrom code w m (std.Err q) m' → LabelledFrom code w m (after r k) m'
+  label_exit d = rw handed d
+
+  pub left_exit : {code : Code} {w : Walk} → LeftFrom code w (std.Err q) → LeftFrom code w (after r k)
+  left_exit d = rw handed d
+
+pub left : {code : Code} {w r : Walk} {o m : List ℕ} → LeftFrom code w r → Ran code w o m r o m
 left d = d.did _ _
 
-pub emitted : {code : Code} {w r : Walk} {o o' m : List ℕ} → Emitted code w o r o' → Did code w o m r o' m
+pub emitted : {code : Code} {w r : Walk} {o o' m : List ℕ} → EmittedFrom code w o r o' → Ran code w o m r o' m
 emitted d = d.did _
 
-pub labelled : {code : Code} {w r : Walk} {o m m' : List ℕ} → Labelled code w m r m' → Did code w o m r o m'
+pub labelled : {code : Code} {w r : Walk} {o m m' : List ℕ} → LabelledFrom code w m r m' → Ran code w o m r o m'
 labelled d = d.did _
 
 -- a check
-pub require_passed : (w : Walk) (b : Bool) (n p x : ℕ) → b ≡ true → Left (require b n p x) w w
+pub require_passed : (w : Walk) (b : Bool) (n p x : ℕ) → b ≡ true → LeftFrom (require b n p x) w w
 unfolding require
 require_passed w b n p x e = rw e (record { did = λ o m. nothing })
 
-pub require_failed : (w r : Walk) (b : Bool) (n p x : ℕ) → b ≡ false → Left (act (refuse n p x)) w r → Left (require b n p x) w r
+pub require_failed : (w r : Walk) (b : Bool) (n p x : ℕ) → b ≡ false → LeftFrom (act (refuse n p x)) w r → LeftFrom (require b n p x) w r
 unfolding require
 require_failed w r b n p x e d = rw e d
 
 -- a jump to a label, and the refusal where there is none
-pub jump_did : {w : Walk} {o : List ℕ} {r : Walk} {o' : List ℕ} (number at : ℕ) (t : Target) (l : ℕ) → t ≡ Label l → Emitted (jump at 0x1F l) w o r o' → Emitted (jump_to number at (target_of t)) w o r o'
+pub jump_did : {w : Walk} {o : List ℕ} {r : Walk} {o' : List ℕ} (number at : ℕ) (t : std.Option ℕ) (l : ℕ) → t ≡ std.Some l → EmittedFrom (jump at 0x1F l) w o r o' → EmittedFrom (jump_to number at (target_of t)) w o r o'
 unfolding jump_to target_of
 jump_did number at t l e d = rw e d
 
-pub no_jump : {w r : Walk} (o : List ℕ) (number at : ℕ) (t : Target) → t ≡ Nowhere → Left (act (refuse number at 0)) w r → Emitted (jump_to number at (target_of t)) w o r o
+pub no_jump : {w r : Walk} (o : List ℕ) (number at : ℕ) (t : std.Option ℕ) → t ≡ std.None → LeftFrom (act (refuse number at 0)) w r → EmittedFrom (jump_to number at (target_of t)) w o r o
 unfolding jump_to target_of
 no_jump o number at t e d = rw e (record { did = λ m. d.did o m })
 
@@ -213,57 +277,57 @@ set_out (x ∷ m) (suc l) v h = ap (λ r. x ∷ r) (set_out m l v (omega arith))
 
 -- leaves
 
-pub weak_none : (at n : ℕ) (w : Walk) (o : List ℕ) → n ≡ 0 → Emitted (weak_to_ref at n) w o w o
+pub weak_none : (at n : ℕ) (w : Walk) (o : List ℕ) → n ≡ 0 → EmittedFrom (weak_to_ref at n) w o w o
 unfolding weak_to_ref
 weak_none at n w o e = rw e (record { did = λ m. nothing })
 
-pub weak_some : {w r : Walk} {o o' : List ℕ} (at n : ℕ) → (n ≡ 0 → ⊥) → Emitted (instr at WeakRefToRef 0) w o r o' → Emitted (weak_to_ref at n) w o r o'
+pub weak_some : {w r : Walk} {o o' : List ℕ} (at n : ℕ) → (n ≡ 0 → ⊥) → EmittedFrom (instr at WeakRefToRef 0) w o r o' → EmittedFrom (weak_to_ref at n) w o r o'
 unfolding weak_to_ref
 weak_some at zero h d = absurd (h refl)
 weak_some at (suc n) h d = d
 
-pub plain_did : {w r : Walk} {o o' : List ℕ} (at t n v m x : ℕ) (row : Row) → row_is row ≡ row_of t → m ≡ cond row.small n 0 → x ≡ cond row.value v 0 →
-    Emitted (act (emit (record { tag = t; small = m; first = 0; second = 0; line = 0; flags = 0; value = x; node = at }))) w o r o' → Emitted (act (emit (plain at t n v))) w o r o'
-plain_did at t n v m x row e f g d =
+pub plain_is : (at t n v m x : ℕ) (row : Row) → row_is row ≡ row_of t → m ≡ cond row.small n 0 → x ≡ cond row.value v 0 →
+    ◌≡◌ {A = Instr} (record { tag = t; small = m; first = 0; second = 0; line = 0; flags = 0; value = x; node = at }) (plain at t n v)
+plain_is at t n v m x row e f g =
     let a : row.small ≡ (row_of t).small = ap (λ (y : definitions.Row). y.small) e in
     let b : row.value ≡ (row_of t).value = ap (λ (y : definitions.Row). y.value) e in
-    rw (← a, ← b, ← f, ← g) d
+    rw (f, g, a, b)
 
-pub emitted_both : {p q : Code} {w r z : Walk} {o o' o'' : List ℕ} → Emitted p w o r o' → Emitted q r o' z o'' → Emitted (p then q) w o z o''
+pub emitted_both : {p q : Code} {w r z : Walk} {o o' o'' : List ℕ} → EmittedFrom p w o r o' → EmittedFrom q r o' z o'' → EmittedFrom (p then q) w o z o''
 emitted_both a b = record { did = λ m. both (a.did m) (b.did m) }
 
 -- the same run in the same scope by another name
-pub rescope : (class : Class) (d : ℕ) (s : List ℕ) (end at : ℕ) {u u' : BlockSpan} {w : Walk} {o m : List ℕ} {r : Walk} {o' m' : List ℕ} → u' ≡ u → Did (fill_code class d s end at u') w o m r o' m' → Did (fill_code class d s end at u) w o m r o' m'
+pub rescope : (class : Class) (d : ℕ) (s : List ℕ) (end at : ℕ) {u u' : BlockSpan} {w : Walk} {o m : List ℕ} {r : Walk} {o' m' : List ℕ} → u' ≡ u → Ran (fill_code class d s end at u') w o m r o' m' → Ran (fill_code class d s end at u) w o m r o' m'
 rescope class d s end at e x = recode (ap (fill_code class d s end at) (sym e)) x
 
 -- two records with the same bytes and size are emitted alike
 alike : (i j : Instr) (w : Walk) (o m : List ℕ) → record_bytes j ≡ record_bytes i → tag_size j.tag ≡ tag_size i.tag → onward (ran w o m) (run (act (emit j))) ≡ onward (ran w o m) (run (act (emit i)))
 unfolding ran onward run move put
-alike i j (Going c) o m e f = rw (e, size_is j, size_is i, f)
-alike i j (Stopped q) o m e f = refl
+alike i j (std.Ok c) o m e f = rw (e, size_is j, size_is i, f)
+alike i j (std.Err q) o m e f = refl
 
-pub emit_alike : {i j : Instr} {w r : Walk} {o o' : List ℕ} → record_bytes j ≡ record_bytes i → tag_size j.tag ≡ tag_size i.tag → Emitted (act (emit j)) w o r o' → Emitted (act (emit i)) w o r o'
+pub emit_alike : {i j : Instr} {w r : Walk} {o o' : List ℕ} → record_bytes j ≡ record_bytes i → tag_size j.tag ≡ tag_size i.tag → EmittedFrom (act (emit j)) w o r o' → EmittedFrom (act (emit i)) w o r o'
 emit_alike {i} {j} {w} {r} {o} {o'} e f d = record { did = λ m. record { same = (d.did m).same ∙ alike i j w o m e f; outs = (d.did m).outs; marked = (d.did m).marked } }
 
 -- groups
 
-pub group_is : (t : Target) (w : Walk) (l : ℕ) → t ≡ Label l → l ≡ group_label t w
+pub group_is : (t : std.Option ℕ) (w : Walk) (l : ℕ) → t ≡ std.Some l → l ≡ group_label t w
 unfolding group_label
 group_is t w l e = rw e
 
-pub group_new : (t : Target) (w : Walk) (l : ℕ) → t ≡ Nowhere → l ≡ labels_of w → l ≡ group_label t w
+pub group_new : (t : std.Option ℕ) (w : Walk) (l : ℕ) → t ≡ std.None → l ≡ labels_of w → l ≡ group_label t w
 unfolding group_label
 group_new t w l e h = rw e h
 
-pub open_not : (t : Target) (at l : ℕ) (w : Walk) (m : List ℕ) → t ≡ Label l → Labelled (open_code t at) w m w m
+pub open_not : (t : std.Option ℕ) (at l : ℕ) (w : Walk) (m : List ℕ) → t ≡ std.Some l → LabelledFrom (open_code t at) w m w m
 unfolding open_code
 open_not t at l w m e = rw e (record { did = λ o. nothing })
 
-pub open_new : (t : Target) (at : ℕ) {w r : Walk} {m m' : List ℕ} → t ≡ Nowhere → Labelled (act (new at)) w m r m' → Labelled (open_code t at) w m r m'
+pub open_new : (t : std.Option ℕ) (at : ℕ) {w r : Walk} {m m' : List ℕ} → t ≡ std.None → LabelledFrom (act (new at)) w m r m' → LabelledFrom (open_code t at) w m r m'
 unfolding open_code
 open_new t at e d = rw e d
 
--- Nops
+-- NopsFrom
 
 -- `left` of n are left
 pub record NopsRest (at n : ℕ) (w : Walk) (o : List ℕ) (left : ℕ) (v : Walk) (o' : List ℕ) : Type 0 where
@@ -273,14 +337,14 @@ pub record NopsRest (at n : ℕ) (w : Walk) (o : List ℕ) (left : ℕ) (v : Wal
 pub nops_start : (at n : ℕ) (w : Walk) (o : List ℕ) → NopsRest at n w o n w o
 nops_start at n w o = record { goes = λ ps e. (ps, e, λ m. refl); outs = refl }
 
-nops_on : (at left : ℕ) (v z : Walk) (o o' : List ℕ) (qs : List ℕ) → 0 < left → length qs ≡ left → Emitted (instr at Nop 0) v o z o' →
+nops_on : (at left : ℕ) (v z : Walk) (o o' : List ℕ) (qs : List ℕ) → 0 < left → length qs ≡ left → EmittedFrom (instr at Nop 0) v o z o' →
     (rs : List ℕ) × (length rs ≡ left - 1) × ((m : List ℕ) → onward (ran z o' m) (run (nops at rs)) ≡ onward (ran v o m) (run (nops at qs)))
 unfolding nops run
 nops_on at left v z o o' [] h e d = absurd (omega (arith, e))
 nops_on at left v z o o' (q ∷ rs) h e d =
     (rs, omega (arith, e), λ m. ap (λ x. onward x (run (nops at rs))) (d.did m).same ∙ onward_assoc (ran v o m) (run (instr at Nop 0)) (run (nops at rs)))
 
-pub nops_next : {at n : ℕ} {w : Walk} {o : List ℕ} {left : ℕ} {v z : Walk} {o₁ o₂ : List ℕ} → NopsRest at n w o left v o₁ → 0 < left → Emitted (instr at Nop 0) v o₁ z o₂ → NopsRest at n w o (left - 1) z o₂
+pub nops_next : {at n : ℕ} {w : Walk} {o : List ℕ} {left : ℕ} {v z : Walk} {o₁ o₂ : List ℕ} → NopsRest at n w o left v o₁ → 0 < left → EmittedFrom (instr at Nop 0) v o₁ z o₂ → NopsRest at n w o (left - 1) z o₂
 nops_next {at} {left = left} {v = v} {z = z} {o₁ = o₁} {o₂ = o₂} r h d = record {
   goes = λ ps e. let k = r.goes ps e in let j = nops_on at left v z o₁ o₂ k.0 h k.1 d in (j.0, j.1, λ m. j.2 m ∙ k.2 m);
   outs = (d.did []).outs ∙ r.outs;
@@ -291,7 +355,7 @@ unfolding nops
 no_nops at [] e = refl
 no_nops at (q ∷ qs) e = absurd (omega (arith, e))
 
-pub nops_end : {at n : ℕ} {w : Walk} {o : List ℕ} {left : ℕ} {v : Walk} {o₁ : List ℕ} → NopsRest at n w o left v o₁ → left ≤ 0 → (ps : List ℕ) → length ps ≡ n → Emitted (nops at ps) w o v o₁
+pub nops_end : {at n : ℕ} {w : Walk} {o : List ℕ} {left : ℕ} {v : Walk} {o₁ : List ℕ} → NopsRest at n w o left v o₁ → left ≤ 0 → (ps : List ℕ) → length ps ≡ n → EmittedFrom (nops at ps) w o v o₁
 unfolding run
 nops_end {at} {v = v} {o₁ = o₁} r h ps e = record {
   did = λ m. let k = r.goes ps e in
@@ -326,7 +390,7 @@ unfolding element_tag
 element_dynamic zero h = absurd (h refl)
 element_dynamic (suc n) h = refl
 
-pub none_emitted : {w : Walk} {o : List ℕ} → Emitted done w o w o
+pub none_emitted : {w : Walk} {o : List ℕ} → EmittedFrom done w o w o
 none_emitted = record { did = λ m. nothing }
 
 -- 3. Codes that run alike
@@ -363,5 +427,5 @@ pub same_end : (p : Code) → SameRun (p then done) p
 unfolding run
 same_end p = record { alike = λ c. onward_made (run p c) }
 
-pub rerun : {p q : Code} {w : Walk} {o m : List ℕ} {r : Walk} {o' m' : List ℕ} → SameRun p q → Did p w o m r o' m' → Did q w o m r o' m'
+pub rerun : {p q : Code} {w : Walk} {o m : List ℕ} {r : Walk} {o' m' : List ℕ} → SameRun p q → Ran p w o m r o' m' → Ran q w o m r o' m'
 rerun {p} {q} {w = w} {o = o} {m = m} h d = record { same = d.same ∙ onward_same (ran w o m) (run p) (run q) (λ c _. h.alike c); outs = d.outs; marked = d.marked }

@@ -3,7 +3,7 @@ use Rattle.std.specs.Prelude.{ℕ, ◌+◌, List, slice_set}
 use Rattle.definitions.specs.Instr.{Instr, size}
 use Rattle.definitions.specs.Code.{unmarked}
 use Rattle.steps.specs.Running.{put, set_made, word}
-use Rattle.steps.specs.declared.Counters.{Counters}
+use Rattle.steps.specs.declared.counters.Counters.{Counters}
 
 -- the counters after a record, and after a new label
 abbrev pub emitted_of : Counters → Instr → Counters

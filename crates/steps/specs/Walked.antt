@@ -1,5 +1,5 @@
 -- What the contracts of the walk cite: the code of what the bytes hold, and what a walk's value and the two buffers say together.
-use Rattle.std.specs.Prelude.{◌≡◌, ℕ, zero, suc, ◌+◌, ◌≤◌, Bool, cond, ◌&&◌, ◌||◌, List, [], ◌∷◌, length, get_or, ◌==◌, ◌≢◌, nat_lt, slice_index, slice_index_or}
+use Rattle.std.specs.Prelude.{◌≡◌, ℕ, zero, suc, ◌+◌, ◌≤◌, ◌<◌, ◌%◌, ◌^◌, Bool, cond, ◌&&◌, ◌||◌, List, [], ◌∷◌, length, get_or, ◌==◌, ◌≢◌, nat_lt, slice_index, slice_index_or}
 use Rattle.std.proofs.Math.Option.{Option, none, some}
 use Rattle.definitions.specs.Answer.{Answer, ok, refused, Result, made, refusal, onward}
 use Rattle.definitions.specs.Bytes.{number}
@@ -10,16 +10,18 @@ use Rattle.definitions.specs.Instr.{Instr, plain}
 use Rattle.definitions.specs.Code.{Code, new, mark, emit, act, emits, ◌then◌, done, label, many}
 use Rattle.definitions.specs.Tag.{Nop, New, Construct, DynamicCast, SwitchDefault, Jump, Assign, ArrayElement, Local, U64Const, const_tag, const_widths, intrinsic_of}
 use Rattle.definitions.specs.Lower.{BlockSpan, lower_expr, lower_exprs, lower_args, lower_stmt, lower_block, lower_default, lower_last, lower_cases, lower_matchers, lower_bodies, emit_call, mid_default, require, instr, jump, nops, null_tag, element_tag, local_tag}
+use Rattle.instr.specs.Refusals.{number_of}
 use Rattle.ir.specs.Class.{TreeOf, node_of}
 use Rattle.ir.specs.Places.{end_of}
 use Rattle.ir.specs.declared.Class.{Class}
 use Rattle.ir.specs.declared.Class.TheVariants.{Statement, Expression}
 use Rattle.steps.specs.Running.{Cells, run}
+use Rattle.std.specs.Prelude as std
+use Rattle.instr.specs.declared.records.Record.{Record}
+use Rattle.instr.specs.declared.refusals.Refusal.{Refusal}
+use Rattle.instr.specs.Values as Values
 use Rattle.steps.specs.declared
-use Rattle.steps.specs.declared.Target.{Target}
-use Rattle.steps.specs.declared.Target.TheVariants.{Nowhere, Label}
-use Rattle.steps.specs.declared.Walk.{Walk}
-use Rattle.steps.specs.declared.Walk.TheVariants.{Going, Stopped}
+use Rattle.steps.specs.declared.counters.Counters.{Counters}
 
 -- 1. The code of what the bytes hold
 
@@ -117,42 +119,79 @@ call_code d s end p node =
 
 -- 3. What the declared types stand for
 
-unfoldable pub target_of : Target → Option ℕ
-target_of Nowhere = none
-target_of (Label l) = some l
+unfoldable pub target_of : std.Option ℕ → Option ℕ
+target_of std.None = none
+target_of (std.Some l) = some l
 
-unfoldable pub span_of : declared.BlockSpan.BlockSpan → BlockSpan
+unfoldable pub span_of : declared.spans.BlockSpan.BlockSpan → BlockSpan
 span_of u = record { break_target = target_of u.break_target; continue_target = target_of u.continue_target; returns = u.returns }
 
-abbrev pub instr_of : declared.Op.Op → Instr
+abbrev pub instr_of : declared.records.Op.Op → Instr
 instr_of o = record { tag = o.tag; small = o.small; first = o.first; second = o.second; line = o.line; flags = o.flags; value = o.value; node = o.node }
 
+-- the record with each field cut to its width
+abbrev pub Cuts : declared.records.Op.Op → Record → Type 0
+Cuts o r = Values.instr_of r ≡ record { tag = o.tag; small = o.small % 2 ^ 8; first = o.first % 2 ^ 16; second = o.second % 2 ^ 16; line = o.line; flags = o.flags; value = o.value; node = o.node % 2 ^ 32 }
+
+-- where the walk stands: at its counters, or stopped by a refusal, which stays
+abbrev pub Walk : Type 0
+Walk = std.Result Counters Refusal
+
+-- where it stands after a step that answers r and leaves the counters c
+abbrev pub after : {A : Type 0} → std.Result A Refusal → Counters → Walk
+after (std.Ok a) c = std.Ok c
+after (std.Err q) c = std.Err q
+
 unfoldable pub ran : Walk → (out marks : List ℕ) → Result Cells
-ran (Going c) o m = made (record { offset = c.offset; labels = c.labels; count = c.count; out = o; marks = m })
-ran (Stopped q) o m = refusal q.number q.place q.extra
+ran (std.Ok c) o m = made (record { offset = c.offset; labels = c.labels; count = c.count; out = o; marks = m })
+ran (std.Err q) o m = refusal (number_of q.reason) q.place q.extra
 
 -- the labels of a walk; none of one that stopped
 unfoldable pub labels_of : Walk → ℕ
-labels_of (Going c) = c.labels
-labels_of (Stopped q) = 0
+labels_of (std.Ok c) = c.labels
+labels_of (std.Err q) = 0
 
--- 4. What a walk did
+-- 4. What a step did
 
 -- the code, run from w and the buffers o, m, gives r and the buffers o', m'
-pub record Did (code : Code) (w : Walk) (o m : List ℕ) (r : Walk) (o' m' : List ℕ) : Type 0 where
+pub record Ran (code : Code) (w : Walk) (o m : List ℕ) (r : Walk) (o' m' : List ℕ) : Type 0 where
   pub same : ran r o' m' ≡ onward (ran w o m) (run code)
   pub outs : length o' ≡ length o
   pub marked : length m' ≡ length m
 
--- it leaves the marks; the records; both
-pub record Emitted (code : Code) (w : Walk) (o : List ℕ) (r : Walk) (o' : List ℕ) : Type 0 where
-  pub did : (m : List ℕ) → Did code w o m r o' m
+-- from the counters c, it answers r and leaves the counters c' and both buffers
+abbrev pub Did : {A : Type 0} → (code : Code) (c : Counters) (o m : List ℕ) (r : std.Result A Refusal) (c' : Counters) (o' m' : List ℕ) → Type 0
+Did code c o m r c' o' m' = Ran code (std.Ok c) o m (after r c') o' m'
 
-pub record Labelled (code : Code) (w : Walk) (m : List ℕ) (r : Walk) (m' : List ℕ) : Type 0 where
-  pub did : (o : List ℕ) → Did code w o m r o m'
+-- whatever the marks: it leaves the counters and the records, and is never refused; or it may be
+pub record EmittedFrom (code : Code) (w : Walk) (o : List ℕ) (r : Walk) (o' : List ℕ) : Type 0 where
+  pub did : (m : List ℕ) → Ran code w o m r o' m
 
-pub record Left (code : Code) (w r : Walk) : Type 0 where
-  pub did : (o m : List ℕ) → Did code w o m r o m
+abbrev pub Emitted : (code : Code) (c : Counters) (o : List ℕ) (c' : Counters) (o' : List ℕ) → Type 0
+Emitted code c o c' o' = EmittedFrom code (std.Ok c) o (std.Ok c') o'
+
+abbrev pub Emits : {A : Type 0} → (code : Code) (c : Counters) (o : List ℕ) (r : std.Result A Refusal) (c' : Counters) (o' : List ℕ) → Type 0
+Emits code c o r c' o' = EmittedFrom code (std.Ok c) o (after r c') o'
+
+-- whatever the records: the marks
+pub record LabelledFrom (code : Code) (w : Walk) (m : List ℕ) (r : Walk) (m' : List ℕ) : Type 0 where
+  pub did : (o : List ℕ) → Ran code w o m r o m'
+
+abbrev pub Labelled : {A : Type 0} → (code : Code) (c : Counters) (m : List ℕ) (r : std.Result A Refusal) (c' : Counters) (m' : List ℕ) → Type 0
+Labelled code c m r c' m' = LabelledFrom code (std.Ok c) m (after r c') m'
+
+-- a new label, by its number, which is below the limit
+pub record Made (at : ℕ) (c : Counters) (m : List ℕ) (r : std.Result ℕ Refusal) (c' : Counters) (m' : List ℕ) : Type 0 where
+  pub did : Labelled (act (new at)) c m r c' m'
+  pub number : std.IfOk r (λ l. l ≡ c.labels)
+  pub few : std.IfOk r (λ l. l < 65536)
+
+-- whatever both: nothing
+pub record LeftFrom (code : Code) (w r : Walk) : Type 0 where
+  pub did : (o m : List ℕ) → Ran code w o m r o m
+
+abbrev pub Left : {A : Type 0} → (code : Code) (r : std.Result A Refusal) → Type 0
+Left code r = (c : Counters) → LeftFrom code (std.Ok c) (after r c)
 
 -- 5. Switches
 
@@ -194,13 +233,18 @@ inside_code d s stop p site first span =
     (lower_cases (cases_of cs) site first none span then lower_last default site span)) (cases_from d s p)
 
 -- the body label of the group that is open, or the next
-unfoldable pub group_label : Target → Walk → ℕ
-group_label Nowhere w = labels_of w
-group_label (Label l) w = l
+unfoldable pub group_label : std.Option ℕ → Walk → ℕ
+group_label std.None w = labels_of w
+group_label (std.Some l) w = l
 
-unfoldable pub open_code : Target → (at : ℕ) → Code
-open_code Nowhere at = act (new at)
-open_code (Label l) at = done
+unfoldable pub open_code : std.Option ℕ → (at : ℕ) → Code
+open_code std.None at = act (new at)
+open_code (std.Some l) at = done
+
+-- it is made where no group is open
+pub record Opened (group : std.Option ℕ) (at : ℕ) (c : Counters) (m : List ℕ) (r : std.Result ℕ Refusal) (c' : Counters) (m' : List ℕ) : Type 0 where
+  pub did : Labelled (open_code group at) c m r c' m'
+  pub number : std.IfOk r (λ l. l ≡ group_label group (std.Ok c))
 
 -- 6. Leaves
 
@@ -214,13 +258,19 @@ unfoldable pub element_code : (at local type i : ℕ) → Code
 element_code at l t i = emits (plain at Assign 0 0 ∷ plain at ArrayElement 0 t ∷ plain at Local 0 l ∷ plain at U64Const 0 i ∷ [])
 
 -- a Nop for each of n parameters, whatever their marks
-abbrev pub Nops : (at n : ℕ) (w : Walk) (o : List ℕ) (r : Walk) (o' : List ℕ) → Type 0
-Nops at n w o r o' = (ps : List ℕ) → length ps ≡ n → Emitted (nops at ps) w o r o'
+abbrev pub NopsFrom : (at n : ℕ) (w : Walk) (o : List ℕ) (r : Walk) (o' : List ℕ) → Type 0
+NopsFrom at n w o r o' = (ps : List ℕ) → length ps ≡ n → EmittedFrom (nops at ps) w o r o'
+
+abbrev pub Nops : (at n : ℕ) (c : Counters) (o : List ℕ) (c' : Counters) (o' : List ℕ) → Type 0
+Nops at n c o c' o' = NopsFrom at n (std.Ok c) o (std.Ok c') o'
 
 -- a mark, where it is to be made
 unfoldable pub mark_if : (here l : ℕ) → Code
 mark_if zero l = done
 mark_if (suc h) l = act (mark l)
+
+abbrev pub MarksIf : (here l : ℕ) (c : Counters) (m m' : List ℕ) → Type 0
+MarksIf here l c m m' = LabelledFrom (mark_if here l) (std.Ok c) m (std.Ok c) m'
 
 unfoldable pub same_as : (k index : ℕ) → ℕ
 same_as k index = cond (k == index) 1 0

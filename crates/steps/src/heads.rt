@@ -2,16 +2,16 @@
 ghost use Rattle.std.specs.Prelude.{◌≡◌, ◌+◌, ◌-◌, ◌<◌, ◌≤◌, length, slice_index};
 ghost use Rattle.definitions.specs.Read.{parse_expr};
 ghost use Rattle.ir.specs.Places.{end_of};
-ghost use Rattle.steps.specs.Walked.{Accepted, Emitted, exprs_from, construct_code, intrinsic_code, head_code, makes_labels, parts_from, parts_at};
+ghost use Rattle.steps.specs.Walked.{Accepted, Emits, exprs_from, construct_code, intrinsic_code, head_code, makes_labels, parts_from, parts_at};
 
-use crate::Walk;
+use crate::counters::Counters;
 use crate::pieces::constant;
 use crate::places::{count, end_of};
-use crate::records::plain;
 use crate::refusals::require;
 use crate::tags::{element_tag, intrinsic_small, intrinsic_tag, local_tag, null_tag, typed};
 use instr::numbers::{byte_at, u32_at, wide};
-use instr::tag;
+use instr::refusals::{Reason, Refusal};
+use instr::tag::Tag;
 use ir::expr;
 
 // Construct, whose arguments have the depth `depth` and end at `stop`.
@@ -20,85 +20,93 @@ pub(crate) fn construct(
     at: usize,
     stop: usize,
     depth: usize,
-    w: Walk,
+    c: &mut Counters,
     out: &mut [u8],
-) -> Walk
+) -> Result<(), Refusal>
     requires accepted { Accepted (exprs_from depth s.now stop (at + 13)) }
     requires at_bound { (at + 13 ≤ stop) × (stop ≤ length s.now) }
-    ensures { Emitted (construct_code depth s.now stop at) w out.old result out.new }
+    ensures { Emits (construct_code depth s.now stop at) c.old out.old result c.new out.new }
 {
     let n = count(s, at + 13, stop, depth);
-    let w1 = require(w, n < 256, 12, at, n);
-    plain(w1, at, tag::CONSTRUCT, n, u32_at(s, at + 5), out)
+    require(n < 256, Reason::Construct, at, n)?;
+    c.plain(at, Tag::Construct, n, u32_at(s, at + 5), out);
+    Ok(())
 }
 
-pub(crate) fn intrinsic(s: &[u8], at: usize, w: Walk, out: &mut [u8]) -> Walk
+pub(crate) fn intrinsic(
+    s: &[u8],
+    at: usize,
+    c: &mut Counters,
+    out: &mut [u8],
+) -> Result<(), Refusal>
     requires { (at + 8 ≤ length s.now) × (slice_index s.now (at + 5) < 34) }
-    ensures { Emitted (intrinsic_code s.now at) w out.old result out.new }
+    ensures { Emits (intrinsic_code s.now at) c.old out.old result c.new out.new }
 {
     let code = wide(s[at + 5]);
     let fits = typed(code, wide(s[at + 6]), wide(s[at + 7]));
-    let w1 = require(w, fits, 14, at, 0);
-    plain(
-        w1,
-        at,
-        intrinsic_tag(code),
-        intrinsic_small(code),
-        u32_at(s, at + 8),
-        out,
-    )
+    require(fits, Reason::Intrinsic, at, 0)?;
+    let i = u32_at(s, at + 8);
+    c.plain(at, intrinsic_tag(code), intrinsic_small(code), i, out);
+    Ok(())
 }
 
 // The record of the node at `at`.
-pub fn head(s: &[u8], at: usize, end: usize, depth: usize, w: Walk, out: &mut [u8]) -> Walk
+pub fn head(
+    s: &[u8],
+    at: usize,
+    end: usize,
+    depth: usize,
+    c: &mut Counters,
+    out: &mut [u8],
+) -> Result<(), Refusal>
     requires accepted { Accepted (parse_expr depth s.now end at) }
     requires end_in_bounds { end ≤ length s.now }
-    ensures { Emitted (head_code (depth - 1) s.now (end_of s.now at) at) w out.old result out.new }
+    ensures { Emits (head_code (depth - 1) s.now (end_of s.now at) at) c.old out.old result c.new out.new }
 {
     let kind = s[at + 4];
     match kind {
-        expr::NOP => plain(w, at, tag::NOP, 0, 0, out),
-        expr::CONST => constant(s, at, w, out),
-        expr::NULL => plain(w, at, null_tag(byte_at(s, at + 5)), 0, 0, out),
-        expr::NEW_INSTANCE => plain(w, at, tag::NEW, 0, u32_at(s, at + 5), out),
-        expr::CONSTRUCT => {
-            let stop = end_of(s, at);
-            construct(s, at, stop, depth - 1, w, out)
-        }
-        expr::ASSIGN => plain(w, at, tag::ASSIGN, 0, 0, out),
+        expr::NOP => c.plain(at, Tag::Nop, 0, 0, out),
+        expr::CONST => constant(s, at, c, out),
+        expr::NULL => c.plain(at, null_tag(byte_at(s, at + 5)), 0, 0, out),
+        expr::NEW_INSTANCE => c.plain(at, Tag::New, 0, u32_at(s, at + 5), out),
+        expr::CONSTRUCT => return construct(s, at, end_of(s, at), depth - 1, c, out),
+        expr::ASSIGN => c.plain(at, Tag::Assign, 0, 0, out),
         expr::INDEX => {
             let t = element_tag(byte_at(s, at + 5));
-            plain(w, at, t, 0, u32_at(s, at + 6), out)
+            c.plain(at, t, 0, u32_at(s, at + 6), out);
         }
         expr::DYN_CAST => {
             let weak = wide(byte_at(s, at + 9));
-            plain(w, at, tag::DYNAMIC_CAST, weak, u32_at(s, at + 5), out)
+            c.plain(at, Tag::DynamicCast, weak, u32_at(s, at + 5), out);
         }
         expr::LOCAL => {
             let t = local_tag(byte_at(s, at + 5));
-            plain(w, at, t, 0, u32_at(s, at + 6), out)
+            c.plain(at, t, 0, u32_at(s, at + 6), out);
         }
-        expr::INTRINSIC_CALL => intrinsic(s, at, w, out),
-        _ => w,
+        expr::INTRINSIC_CALL => return intrinsic(s, at, c, out),
+        _ => {}
     }
+    Ok(())
 }
 
 // Whether the rule of this kind makes labels. Every other kind is one record and then its parts in order.
+#[tactic(auto, unfolding(crate::specs::Walked::makes_labels))]
 pub fn makes_labels(kind: u8) -> bool
     ensures { result ≡ makes_labels kind }
 {
-    match kind {
-        expr::FIELD => true,
-        expr::CONDITIONAL => true,
-        expr::FREE_CALL => true,
-        expr::STATIC_CALL => true,
-        expr::INSTANCE_CALL => true,
-        expr::CLOSURE_CALL => true,
-        _ => false,
-    }
+    matches!(
+        kind,
+        expr::FIELD
+            | expr::CONDITIONAL
+            | expr::FREE_CALL
+            | expr::STATIC_CALL
+            | expr::INSTANCE_CALL
+            | expr::CLOSURE_CALL
+    )
 }
 
 // How far into a node of this kind its parts begin; 0 where it has none.
+#[tactic(auto, unfolding(crate::specs::Walked::parts_from))]
 pub(crate) fn parts_from(kind: u8) -> usize
     ensures { (result ≡ parts_from kind) × (result ≤ 16) }
 {

@@ -1,11 +1,11 @@
 // Labels: made, and marked where the code stands.
-ghost use Rattle.std.specs.Prelude.{◌≡◌, ◌^◌, ◌<◌, slice_set};
-ghost use Rattle.definitions.specs.Code.{Action, new, mark, act, many, done, label};
+ghost use Rattle.std.specs.Prelude.{◌≡◌, slice_set};
+ghost use Rattle.definitions.specs.Code.{many, done};
 ghost use Rattle.steps.specs.Running.{set_made};
-ghost use Rattle.steps.specs.Walked.{labels_of, Labelled};
+ghost use Rattle.steps.specs.Walked.{Labelled, Made};
 
-use crate::{Walk, lent};
-use ir::Refusal;
+use crate::counters::Counters;
+use instr::refusals::{Reason, Refusal};
 
 pub const LABELS: u32 = 65536;
 
@@ -29,54 +29,26 @@ pub(crate) fn put_made(marks: &mut [u32], l: usize, v: u32, made: u32)
     }
 }
 
-// The number of the next label.
-pub fn labels_of(w: Walk) -> usize
-    ensures { (result ≡ labels_of w) × (result < 2 ^ 32) }
-{
-    let Walk::Going(c) = w else {
-        return 0;
-    };
-    c.labels as usize
-}
-
-// The next label, made by the rule of the node at `at`.
-pub fn new_label(w: Walk, at: usize, marks: &mut [u32]) -> Walk
-    ensures { Labelled (act (Action.new at)) w marks.old result marks.new }
-{
-    let Walk::Going(c) = w else {
-        return w;
-    };
-    if c.labels < LABELS {
-        let d = lent::with_label(c, marks);
-        return Walk::Going(d);
+impl Counters {
+    // The next label, made by the rule of the node at `at`.
+    pub fn new_label(&mut self, at: usize, marks: &mut [u32]) -> Result<usize, Refusal>
+        ensures { Made at self.old marks.old result self.new marks.new }
+    {
+        if LABELS <= self.labels {
+            return Err(Refusal::at(Reason::Labels, at));
+        }
+        let label = self.labels as usize;
+        self.add_label(marks);
+        Ok(label)
     }
-    Walk::Stopped(Refusal {
-        number: 15,
-        place: at,
-        extra: 0,
-    })
-}
 
-// n of them.
-pub fn new_labels(w: Walk, at: usize, n: usize, marks: &mut [u32]) -> Walk
-    ensures { Labelled (many at n done) w marks.old result marks.new }
-{
-    let mut v = w;
-    let mut left = n;
-    while 0 < left {
-        v = new_label(v, at, marks);
-        left -= 1;
+    // n of them.
+    pub fn new_labels(&mut self, at: usize, n: usize, marks: &mut [u32]) -> Result<(), Refusal>
+        ensures { Labelled (many at n done) self.old marks.old result self.new marks.new }
+    {
+        for _i in 0..n {
+            self.new_label(at, marks)?;
+        }
+        Ok(())
     }
-    v
-}
-
-// The label lands here.
-pub fn mark_label(w: Walk, label: usize, marks: &mut [u32]) -> Walk
-    ensures { Labelled (act (Action.mark label)) w marks.old result marks.new }
-{
-    let Walk::Going(c) = w else {
-        return w;
-    };
-    let d = lent::with_mark(c, label, marks);
-    Walk::Going(d)
 }

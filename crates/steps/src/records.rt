@@ -1,16 +1,66 @@
 // Records: each is written where it fits.
 ghost use Rattle.std.specs.Prelude.{◌≡◌, ◌%◌, ◌^◌, cond};
-ghost use Rattle.definitions.specs.Tag.{tag_size};
 ghost use Rattle.definitions.specs.Instr.{plain};
-ghost use Rattle.definitions.specs.Code.{Action, emit, act};
+ghost use Rattle.definitions.specs.Code.{Action, act};
 ghost use Rattle.definitions.specs.Lower.{jump, jumps, emit_switch, invoke};
-ghost use Rattle.steps.specs.Running.{put};
+ghost use Rattle.instr.specs.Tags.{byte_of};
 ghost use Rattle.instr.specs.Values as Values;
-ghost use Rattle.steps.specs.Walked.{Emitted};
+ghost use Rattle.steps.specs.Running.{put};
+ghost use Rattle.steps.specs.Walked.{Cuts, Emitted};
 
-use crate::{Op, Walk, lent};
+use crate::counters::Counters;
 use instr::records::Record;
-use instr::{listings, records, tables, tag};
+use instr::tag::Tag;
+use instr::{listings, records};
+
+// A record before its fields are cut to their widths.
+#[derive(Clone, Copy, Debug, PartialEq, Eq)]
+pub struct Op {
+    pub tag: u8,
+    pub small: usize,
+    pub first: usize,
+    pub second: usize,
+    pub line: u16,
+    pub flags: u16,
+    pub value: u64,
+    pub node: usize,
+}
+
+impl Op {
+    // With no field but its tag, of the node whose rule emits it.
+    pub fn new(tag: Tag, node: usize) -> Self
+        ensures { result ≡ record { tag = byte_of tag; small = 0; first = 0; second = 0; line = 0; flags = 0; value = 0; node = node } }
+    {
+        Op {
+            tag: tag.byte(),
+            small: 0,
+            first: 0,
+            second: 0,
+            line: 0,
+            flags: 0,
+            value: 0,
+            node,
+        }
+    }
+}
+
+// Each field is cut to its width. No bit is lost: what the walk of a unit emits is within the widths (landing's emitted_records).
+impl From<Op> for Record {
+    ghost from_gives = { Cuts };
+
+    fn from(op: Op) -> Self {
+        Record {
+            tag: op.tag,
+            small: (op.small % 256) as u8,
+            first: (op.first % 65536) as u16,
+            second: (op.second % 65536) as u16,
+            line: op.line,
+            flags: op.flags,
+            value: op.value,
+            node: (op.node % 4294967296) as u32,
+        }
+    }
+}
 
 // Record k, where it fits.
 pub(crate) fn put_record(out: &mut [u8], k: u32, r: Record)
@@ -22,112 +72,81 @@ pub(crate) fn put_record(out: &mut [u8], k: u32, r: Record)
     }
 }
 
-// The record, each field cut to its width. No bit is lost: what the walk of a unit emits is within the widths (landing's emitted_records).
-pub(crate) fn record_of(op: Op) -> Record
-    ensures { Values.instr_of result ≡ record { tag = op.tag; small = op.small % 2 ^ 8; first = op.first % 2 ^ 16; second = op.second % 2 ^ 16; line = op.line; flags = op.flags; value = op.value; node = op.node % 2 ^ 32 } }
-{
-    Record {
-        tag: op.tag,
-        small: (op.small % 256) as u8,
-        first: (op.first % 65536) as u16,
-        second: (op.second % 65536) as u16,
-        line: op.line,
-        flags: op.flags,
-        value: op.value,
-        node: (op.node % 4294967296) as u32,
-    }
-}
-
-pub(crate) fn size_of(tag: u8) -> u32
-    ensures { result ≡ tag_size tag }
-{
-    tables::size_of(tag) as u32
-}
-
-// The next record, whose fields come one by one: so the compiler sees in each function below which of them are 0. Those functions take the
-// place of the node whose rule emits it.
-pub fn emit(
-    w: Walk,
-    tag: u8,
-    small: usize,
-    first: usize,
-    second: usize,
-    line: u16,
-    flags: u16,
-    value: u64,
-    node: usize,
-    out: &mut [u8],
-) -> Walk
-    ensures { Emitted (act (Action.emit (record { tag = tag; small = small; first = first; second = second; line = line; flags = flags; value = value; node = node }))) w out.old result out.new }
-{
-    let Walk::Going(c) = w else {
-        return w;
-    };
-    let op = Op {
-        tag,
-        small,
-        first,
-        second,
-        line,
-        flags,
-        value,
-        node,
-    };
-    let d = lent::with_record(c, op, out);
-    Walk::Going(d)
-}
-
 // A field, where the tag uses it.
-pub(crate) fn masked(used: bool, v: usize) -> usize
+fn masked(used: bool, v: usize) -> usize
     ensures { result ≡ cond «used» v 0 }
 {
-    if used {
-        return v;
+    if used { v } else { 0 }
+}
+
+// Each takes the place of the node whose rule emits it.
+impl Counters {
+    // A record with no label.
+    pub fn plain(&mut self, at: usize, tag: Tag, small: usize, value: usize, out: &mut [u8])
+        ensures { Emitted (act (Action.emit (plain at (byte_of tag) small value))) self.old out.old self.new out.new }
+    {
+        let row = tag.row();
+        let op = Op {
+            small: masked(row.small, small),
+            value: masked(row.value, value) as u64,
+            ..Op::new(tag, at)
+        };
+        self.emit(op, out);
     }
-    0
-}
 
-// A record with no label.
-pub fn plain(w: Walk, at: usize, tag: u8, small: usize, value: usize, out: &mut [u8]) -> Walk
-    ensures { Emitted (act (Action.emit (plain at tag small value))) w out.old result out.new }
-{
-    let row = tables::row_of(tag);
-    let m = masked(row.small, small);
-    let v = masked(row.value, value);
-    emit(w, tag, m, 0, 0, 0, 0, v as u64, at, out)
-}
+    // With one label.
+    pub fn jump(&mut self, at: usize, tag: Tag, to: usize, out: &mut [u8])
+        ensures { Emitted (jump at (byte_of tag) to) self.old out.old self.new out.new }
+    {
+        let op = Op {
+            first: to,
+            ..Op::new(tag, at)
+        };
+        self.emit(op, out);
+    }
 
-// With one label.
-pub fn jump(w: Walk, at: usize, tag: u8, to: usize, out: &mut [u8]) -> Walk
-    ensures { Emitted (jump at tag to) w out.old result out.new }
-{
-    emit(w, tag, 0, to, 0, 0, 0, 0, at, out)
-}
+    // Conditional and SwitchLabel.
+    pub fn jumps(&mut self, at: usize, tag: Tag, first: usize, second: usize, out: &mut [u8])
+        ensures { Emitted (jumps at (byte_of tag) first second) self.old out.old self.new out.new }
+    {
+        let op = Op {
+            first,
+            second,
+            ..Op::new(tag, at)
+        };
+        self.emit(op, out);
+    }
 
-// Conditional and SwitchLabel.
-pub fn jumps(w: Walk, at: usize, tag: u8, first: usize, second: usize, out: &mut [u8]) -> Walk
-    ensures { Emitted (jumps at tag first second) w out.old result out.new }
-{
-    emit(w, tag, 0, first, second, 0, 0, 0, at, out)
-}
+    pub fn switch(&mut self, at: usize, typ: usize, first: usize, out: &mut [u8])
+        ensures { Emitted (emit_switch at typ first) self.old out.old self.new out.new }
+    {
+        let op = Op {
+            first,
+            value: typ as u64,
+            ..Op::new(Tag::Switch, at)
+        };
+        self.emit(op, out);
+    }
 
-pub fn emit_switch(w: Walk, at: usize, typ: usize, first: usize, out: &mut [u8]) -> Walk
-    ensures { Emitted (emit_switch at typ first) w out.old result out.new }
-{
-    emit(w, tag::SWITCH, 0, first, 0, 0, 0, typ as u64, at, out)
-}
-
-pub fn invoke(
-    w: Walk,
-    at: usize,
-    tag: u8,
-    exit: usize,
-    line: u16,
-    flags: u16,
-    value: usize,
-    out: &mut [u8],
-) -> Walk
-    ensures { Emitted (invoke at tag exit line flags value) w out.old result out.new }
-{
-    emit(w, tag, 0, exit, 0, line, flags, value as u64, at, out)
+    pub fn invoke(
+        &mut self,
+        at: usize,
+        tag: Tag,
+        exit: usize,
+        line: u16,
+        flags: u16,
+        value: usize,
+        out: &mut [u8],
+    )
+        ensures { Emitted (invoke at (byte_of tag) exit line flags value) self.old out.old self.new out.new }
+    {
+        let op = Op {
+            first: exit,
+            line,
+            flags,
+            value: value as u64,
+            ..Op::new(tag, at)
+        };
+        self.emit(op, out);
+    }
 }

@@ -1,27 +1,34 @@
-// BlockSpan: where break and continue go.
+// Where break and continue go.
 ghost use Rattle.std.specs.Prelude.{◌≡◌};
 ghost use Rattle.definitions.specs.Lower.{in_loop, in_switch};
 ghost use Rattle.steps.specs.Walked.{span_of};
 
-use crate::{BlockSpan, Target};
-
-pub fn in_loop(start: usize, finish: usize, span: BlockSpan) -> BlockSpan
-    ensures { span_of result ≡ in_loop start finish (span_of span) }
-{
-    BlockSpan {
-        break_target: Target::Label(finish),
-        continue_target: Target::Label(start),
-        returns: span.returns,
-    }
+// Where break and continue go, and the unit's return byte.
+#[derive(Clone, Copy, Debug, PartialEq, Eq)]
+pub struct BlockSpan {
+    pub break_target: Option<usize>,
+    pub continue_target: Option<usize>,
+    pub returns: usize,
 }
 
-pub fn in_switch(finish: usize, span: BlockSpan) -> BlockSpan
-    ensures { span_of result ≡ in_switch finish (span_of span) }
-{
-    let continue_target = span.continue_target;
-    BlockSpan {
-        break_target: Target::Label(finish),
-        continue_target: continue_target,
-        returns: span.returns,
+#[tactic(auto, unfolding(crate::specs::Walked::span_of, crate::specs::Walked::target_of))]
+impl BlockSpan {
+    pub fn in_loop(self, start: usize, exit: usize) -> Self
+        ensures { span_of result ≡ in_loop start exit (span_of self) }
+    {
+        BlockSpan {
+            break_target: Some(exit),
+            continue_target: Some(start),
+            ..self
+        }
+    }
+
+    pub fn in_switch(self, finish: usize) -> Self
+        ensures { span_of result ≡ in_switch finish (span_of self) }
+    {
+        BlockSpan {
+            break_target: Some(finish),
+            ..self
+        }
     }
 }

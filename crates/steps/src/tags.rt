@@ -1,123 +1,146 @@
 // The tags that a byte of the unit picks.
 ghost use Rattle.std.specs.Prelude.{◌≡◌, ◌<◌, ◌&&◌, [], ◌∷◌, ◌==◌, slice_index_or};
 ghost use Rattle.definitions.specs.Tag.{const_tag, I32Zero, I32One, I32Const, FalseConst, TrueConst, intrinsic_of};
+ghost use Rattle.instr.specs.Tags.{byte_of};
 ghost use Rattle.definitions.specs.Lower.{null_tag, element_tag, local_tag};
 
-use instr::tag;
+use instr::tag::Tag;
+use ir::expr::{CONST_BOOL, CONST_I32};
 
-pub fn null_tag(weak: u8) -> u8
-    ensures { result ≡ null_tag weak }
+#[tactic(auto, unfolding(definitions::specs::Lower::null_tag))]
+pub fn null_tag(weak: u8) -> Tag
+    ensures { byte_of result ≡ null_tag weak }
 {
     if weak == 0 {
-        return tag::NULL;
+        Tag::Null
+    } else {
+        Tag::WeakRefNull
     }
-    tag::WEAK_REF_NULL
 }
 
-pub fn element_tag(dynamic: u8) -> u8
-    ensures { result ≡ element_tag dynamic }
+#[tactic(auto, unfolding(definitions::specs::Lower::element_tag))]
+pub fn element_tag(dynamic: u8) -> Tag
+    ensures { byte_of result ≡ element_tag dynamic }
 {
     if dynamic == 0 {
-        return tag::STATIC_ARRAY_ELEMENT;
+        Tag::StaticArrayElement
+    } else {
+        Tag::ArrayElement
     }
-    tag::ARRAY_ELEMENT
 }
 
-pub fn local_tag(form: u8) -> u8
-    ensures { result ≡ local_tag form }
+#[tactic(auto, unfolding(definitions::specs::Lower::local_tag))]
+pub fn local_tag(form: u8) -> Tag
+    ensures { byte_of result ≡ local_tag form }
 {
     match form {
-        0 => tag::THIS,
-        1 => tag::LOCAL,
-        2 => tag::PARAM,
-        _ => tag::OBJECT_FIELD,
+        0 => Tag::This,
+        1 => Tag::Local,
+        2 => Tag::Param,
+        _ => Tag::ObjectField,
     }
 }
 
-pub(crate) fn i32_tag(value: u64) -> u8
-    ensures { result ≡ slice_index_or (I32Zero ∷ I32One ∷ []) value I32Const }
+pub(crate) fn i32_tag(value: u64) -> Tag
+    ensures { byte_of result ≡ slice_index_or (I32Zero ∷ I32One ∷ []) value I32Const }
 {
     match value {
-        0 => tag::I32_ZERO,
-        1 => tag::I32_ONE,
-        _ => tag::I32_CONST,
+        0 => Tag::I32Zero,
+        1 => Tag::I32One,
+        _ => Tag::I32Const,
     }
 }
 
-pub(crate) fn bool_tag(value: u64) -> u8
-    ensures { result ≡ slice_index_or (FalseConst ∷ []) value TrueConst }
+pub(crate) fn bool_tag(value: u64) -> Tag
+    ensures { byte_of result ≡ slice_index_or (FalseConst ∷ []) value TrueConst }
 {
     if value == 0 {
-        return tag::FALSE_CONST;
+        Tag::FalseConst
+    } else {
+        Tag::TrueConst
     }
-    tag::TRUE_CONST
 }
+
+// The tags of constants, by their byte. What stands here of an I32 and of a Bool is not read: their tag is that of their value.
+static CONST_TAGS: [Tag; 16] = [
+    Tag::StringConst,
+    Tag::CNameConst,
+    Tag::ResourceConst,
+    Tag::TweakDbIdConst,
+    Tag::EnumConst,
+    Tag::F32Const,
+    Tag::F64Const,
+    Tag::I8Const,
+    Tag::I16Const,
+    Tag::I32Const,
+    Tag::I64Const,
+    Tag::U8Const,
+    Tag::U16Const,
+    Tag::U32Const,
+    Tag::U64Const,
+    Tag::TrueConst,
+];
 
 // The tag of a constant, by its byte; an I32 of 0 or 1 and a Bool have tags of their own value.
-pub(crate) fn const_tag(byte: usize, value: u64) -> u8
-    ensures { result ≡ const_tag byte value }
+pub(crate) fn const_tag(byte: usize, value: u64) -> Tag
+    ensures { byte_of result ≡ const_tag byte value }
 {
     match byte {
-        0 => tag::STRING_CONST,
-        1 => tag::CNAME_CONST,
-        2 => tag::RESOURCE_CONST,
-        3 => tag::TWEAK_DB_ID_CONST,
-        4 => tag::ENUM_CONST,
-        5 => tag::F32_CONST,
-        6 => tag::F64_CONST,
-        7 => tag::I8_CONST,
-        8 => tag::I16_CONST,
-        9 => i32_tag(value),
-        10 => tag::I64_CONST,
-        11 => tag::U8_CONST,
-        12 => tag::U16_CONST,
-        13 => tag::U32_CONST,
-        14 => tag::U64_CONST,
-        15 => bool_tag(value),
-        _ => tag::NOP,
+        CONST_I32 => i32_tag(value),
+        CONST_BOOL => bool_tag(value),
+        _ => CONST_TAGS.get(byte).copied().unwrap_or(Tag::Nop),
     }
 }
 
+// What an intrinsic emits, its tag and its size, where it has one; and how many type arguments it needs.
+#[derive(Clone, Copy)]
+struct Intrinsic(Tag, usize, usize);
+
+// By code.
+static INTRINSICS: [Intrinsic; 34] = [
+    Intrinsic(Tag::Equals, 0, 1),
+    Intrinsic(Tag::NotEquals, 0, 1),
+    Intrinsic(Tag::ArrayClear, 0, 1),
+    Intrinsic(Tag::ArraySize, 0, 1),
+    Intrinsic(Tag::ArrayResize, 0, 1),
+    Intrinsic(Tag::ArrayFindFirst, 0, 1),
+    Intrinsic(Tag::ArrayFindLast, 0, 1),
+    Intrinsic(Tag::ArrayContains, 0, 1),
+    Intrinsic(Tag::ArrayCount, 0, 1),
+    Intrinsic(Tag::ArrayPush, 0, 1),
+    Intrinsic(Tag::ArrayPop, 0, 1),
+    Intrinsic(Tag::ArrayInsert, 0, 1),
+    Intrinsic(Tag::ArrayRemove, 0, 1),
+    Intrinsic(Tag::ArrayGrow, 0, 1),
+    Intrinsic(Tag::ArrayErase, 0, 1),
+    Intrinsic(Tag::ArrayLast, 0, 1),
+    Intrinsic(Tag::ArraySort, 0, 1),
+    Intrinsic(Tag::ArraySortByPredicate, 0, 1),
+    Intrinsic(Tag::ToString, 0, 1),
+    Intrinsic(Tag::EnumToI32, 4, 1),
+    Intrinsic(Tag::I32ToEnum, 4, 1),
+    Intrinsic(Tag::I32ToEnum, 8, 1),
+    Intrinsic(Tag::ToVariant, 0, 1),
+    Intrinsic(Tag::FromVariant, 0, 1),
+    Intrinsic(Tag::VariantIsDefined, 0, 0),
+    Intrinsic(Tag::VariantIsRef, 0, 0),
+    Intrinsic(Tag::VariantIsArray, 0, 0),
+    Intrinsic(Tag::VariantTypeName, 0, 0),
+    Intrinsic(Tag::AsRef, 0, 1),
+    Intrinsic(Tag::Deref, 0, 1),
+    Intrinsic(Tag::RefToWeakRef, 0, 1),
+    Intrinsic(Tag::WeakRefToRef, 0, 1),
+    Intrinsic(Tag::RefToBool, 0, 0),
+    Intrinsic(Tag::CNameConst, 0, 1),
+];
+
 // The tag of an intrinsic, by its code.
-pub fn intrinsic_tag(code: usize) -> u8
-    ensures { result ≡ (intrinsic_of code).tag }
+pub fn intrinsic_tag(code: usize) -> Tag
+    ensures { byte_of result ≡ (intrinsic_of code).tag }
 {
-    match code {
-        0 => tag::EQUALS,
-        1 => tag::NOT_EQUALS,
-        2 => tag::ARRAY_CLEAR,
-        3 => tag::ARRAY_SIZE,
-        4 => tag::ARRAY_RESIZE,
-        5 => tag::ARRAY_FIND_FIRST,
-        6 => tag::ARRAY_FIND_LAST,
-        7 => tag::ARRAY_CONTAINS,
-        8 => tag::ARRAY_COUNT,
-        9 => tag::ARRAY_PUSH,
-        10 => tag::ARRAY_POP,
-        11 => tag::ARRAY_INSERT,
-        12 => tag::ARRAY_REMOVE,
-        13 => tag::ARRAY_GROW,
-        14 => tag::ARRAY_ERASE,
-        15 => tag::ARRAY_LAST,
-        16 => tag::ARRAY_SORT,
-        17 => tag::ARRAY_SORT_BY_PREDICATE,
-        18 => tag::TO_STRING,
-        19 => tag::ENUM_TO_I32,
-        20 => tag::I32_TO_ENUM,
-        21 => tag::I32_TO_ENUM,
-        22 => tag::TO_VARIANT,
-        23 => tag::FROM_VARIANT,
-        24 => tag::VARIANT_IS_DEFINED,
-        25 => tag::VARIANT_IS_REF,
-        26 => tag::VARIANT_IS_ARRAY,
-        27 => tag::VARIANT_TYPE_NAME,
-        28 => tag::AS_REF,
-        29 => tag::DEREF,
-        30 => tag::REF_TO_WEAK_REF,
-        31 => tag::WEAK_REF_TO_REF,
-        32 => tag::REF_TO_BOOL,
-        33 => tag::CNAME_CONST,
-        _ => tag::NOP,
+    match INTRINSICS.get(code) {
+        Some(i) => i.0,
+        None => Tag::Nop,
     }
 }
 
@@ -126,36 +149,13 @@ pub fn intrinsic_small(code: usize) -> usize
     requires { code < 34 }
     ensures { (result ≡ (intrinsic_of code).small) × (result < 256) }
 {
-    match code {
-        19 => 4,
-        20 => 4,
-        21 => 8,
-        _ => 0,
-    }
+    INTRINSICS[code].1
 }
 
-// How many type arguments it needs: the four Variant queries and IsDefined none.
-fn intrinsic_types(code: usize) -> usize
-    requires { code < 34 }
-    ensures { result ≡ (intrinsic_of code).types }
-{
-    match code {
-        24 => 0,
-        25 => 0,
-        26 => 0,
-        27 => 0,
-        32 => 0,
-        _ => 1,
-    }
-}
-
-// An intrinsic without short-circuit parameters and with as many type arguments as it needs.
+// An intrinsic without short-circuit parameters and with as many type arguments as it needs: the four Variant queries and IsDefined none.
 pub fn typed(code: usize, short: usize, types: usize) -> bool
     requires { code < 34 }
     ensures { result ≡ (short == 0 && types == (intrinsic_of code).types) }
 {
-    if short == 0 {
-        return types == intrinsic_types(code);
-    }
-    false
+    short == 0 && types == INTRINSICS[code].2
 }

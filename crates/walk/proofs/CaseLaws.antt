@@ -7,6 +7,7 @@ use mathlib.Core.Option.{Option, none, some}
 use native.Mathlib.Omega.{arith}
 use lib.Dec.{ltb, leb}
 use borrow.Author.Tests.{ltb-true, ltb-false, leb-true, leb-false, le-leb, lt-leb}
+use Rattle.std.specs.Prelude as std
 use Rattle.definitions.specs.Answer.{ok, onward}
 use Rattle.definitions.specs.Tag.{SwitchLabel, Jump, JumpIfFalse}
 use Rattle.definitions.specs.Tree.{Expr, Stmt, Block, block_of, cases_of, branches_of, exprs_of}
@@ -17,10 +18,7 @@ use Rattle.ir.specs.Places.{end_of}
 use Rattle.ir.proofs.Inversion.{fill_some, fill_none, stmt_moves, expr_moves, expr_at}
 use Rattle.ir.proofs.StmtPlaces.{arm_at, arm_moves}
 use Rattle.steps.specs.Running.{run}
-use Rattle.steps.specs.Walked.{expr_code, exprs_from, element_code, Emitted, Accepted, arms_from, ran, labels_of, target_of, code_of, arm_code, ending, group_label, open_code, Labelled, Did}
-use Rattle.steps.specs.declared.Target.{Target}
-use Rattle.steps.specs.declared.Target.TheVariants.{Nowhere, Label}
-use Rattle.steps.specs.declared.Walk.{Walk}
+use Rattle.steps.specs.Walked.{expr_code, exprs_from, element_code, EmittedFrom, Accepted, arms_from, ran, labels_of, target_of, code_of, arm_code, ending, group_label, open_code, LabelledFrom, Ran, Walk}
 use Rattle.laws.proofs.Results.{onward_made}
 use Rattle.steps.proofs.StepLaws.{labelled, emitted, recode, SameRun, same_assoc, same_right, same_on, same_done}
 use Rattle.steps.proofs.RunLaws.{Goes, goes_same, goes_on, one_step, fresh_step, renamed, goes_last, goes_end, Rest, rest_start, rest_next, rest_end, Turn, turn}
@@ -30,7 +28,7 @@ use Rattle.walk.proofs.ExprCode.{child}
 -- 1. Steps
 
 -- nothing was done
-pub skip_step : (p : Code) {w v : Walk} {o m o' m' : List ℕ} → Did done w o m v o' m' → Goes p w o m p v o' m'
+pub skip_step : (p : Code) {w v : Walk} {o m o' m' : List ℕ} → Ran done w o m v o' m' → Goes p w o m p v o' m'
 unfolding run
 skip_step p {w = w} {o = o} {m = m} d = record { same = ap (λ x. onward x (run p)) (d.same ∙ onward_made (ran w o m)); outs = d.outs; marked = d.marked }
 
@@ -44,7 +42,7 @@ pub ends_false : (b : Bool) (body : ℕ) (p : Code) → b ≡ false → ending b
 unfolding ending
 ends_false b body p e = rw e
 
-case_tail : (ends : Bool) (j x b r₁ r₂ : Code) (body : ℕ) {w v : Walk} {o m o' m' : List ℕ} → Did (j then (x then ending ends body b)) w o m v o' m' →
+case_tail : (ends : Bool) (j x b r₁ r₂ : Code) (body : ℕ) {w v : Walk} {o m o' m' : List ℕ} → Ran (j then (x then ending ends body b)) w o m v o' m' →
     Goes (j then (x then cond ends (act (mark body) then (b then r₁)) r₂)) w o m (cond ends r₁ r₂) v o' m'
 unfolding ending
 case_tail true j x b r₁ r₂ body {w = w} {o = o} {m = m} d =
@@ -53,11 +51,11 @@ case_tail false j x b r₁ r₂ body {w = w} {o = o} {m = m} d =
     goes_on (goes_same w o m (same_on (same_right j (same_on (same_right x (same_done r₂)) (same_assoc x done r₂))) (same_assoc j (x then done) r₂))) (one_step r₂ d)
 
 -- the group's body label: that of the group that is open, or a new one
-group_step : (group : Target) (site : ℕ) (k : ℕ → Code) (body : ℕ) {v v₁ : Walk} {o m m₁ : List ℕ} → body ≡ group_label group v → Labelled (open_code group site) v m v₁ m₁ →
+group_step : (group : (std.Option ℕ)) (site : ℕ) (k : ℕ → Code) (body : ℕ) {v v₁ : Walk} {o m m₁ : List ℕ} → body ≡ group_label group v → LabelledFrom (open_code group site) v m v₁ m₁ →
     Goes (in_group (target_of group) site k) v o m (k body) v₁ o m₁
 unfolding in_group target_of group_label open_code
-group_step Nowhere site k body e l = fresh_step site k body e (labelled l)
-group_step (Label n) site k body e l = rw e (skip_step (k n) (labelled l))
+group_step std.None site k body e l = fresh_step site k body e (labelled l)
+group_step (std.Some n) site k body e l = rw e (skip_step (k n) (labelled l))
 
 abbrev Some : {A : Type 0} → List A → Type 0
 Some {A} xs = (x : A) × (ys : List A) × (xs ≡ x ∷ ys)
@@ -109,15 +107,15 @@ group_ends d s end i second third x n others last r e f q =
     (λ h. (fill_none (arm_of d s) end (arm_moves d s end) n h q).0))
 
 -- at i, where the label `next` is to be marked and a group may be open
-pub record CasesRest (d : ℕ) (s : List ℕ) (end site : ℕ) (sc : BlockSpan) (code : Code) (w : Walk) (o m : List ℕ) (next : ℕ) (group : Target) (i : ℕ) (v : Walk) (o' m' : List ℕ) : Type 0 where
+pub record CasesRest (d : ℕ) (s : List ℕ) (end site : ℕ) (sc : BlockSpan) (code : Code) (w : Walk) (o m : List ℕ) (next : ℕ) (group : (std.Option ℕ)) (i : ℕ) (v : Walk) (o' m' : List ℕ) : Type 0 where
   pub rest : Rest (arm_of d s) (λ xs. lower_cases (cases_of xs) site next (target_of group) sc) code end w o m i v o' m'
 
-pub cases_start : (d : ℕ) (s : List ℕ) (end at site first : ℕ) (sc : BlockSpan) (group : Target) (w : Walk) (o m : List ℕ) → target_of group ≡ none → at ≤ end → Accepted (arms_from d s end at) →
+pub cases_start : (d : ℕ) (s : List ℕ) (end at site first : ℕ) (sc : BlockSpan) (group : (std.Option ℕ)) (w : Walk) (o m : List ℕ) → target_of group ≡ none → at ≤ end → Accepted (arms_from d s end at) →
     CasesRest d s end site sc (code_of (λ xs. lower_cases (cases_of xs) site first none sc) (arms_from d s end at)) w o m first group at w o m
 cases_start d s end at site first sc group w o m e h acc =
     record { rest = rw e (rest_start (arm_of d s) (λ xs. lower_cases (cases_of xs) site first none sc) end at w o m h acc) }
 
-module _ {d : ℕ} {s : List ℕ} {end site : ℕ} {sc : BlockSpan} {code : Code} {w : Walk} {o m : List ℕ} {next : ℕ} {group : Target} {i : ℕ} {v : Walk} {o₁ m₁ : List ℕ}
+module _ {d : ℕ} {s : List ℕ} {end site : ℕ} {sc : BlockSpan} {code : Code} {w : Walk} {o m : List ℕ} {next : ℕ} {group : (std.Option ℕ)} {i : ℕ} {v : Walk} {o₁ m₁ : List ℕ}
     (r : CasesRest d s end site sc code w o m next group i v o₁ m₁) (h : i < end) where
   pub cases_turn : Turn (arm_of d s) end i r.rest.list r.rest.last
   cases_turn = turn (arm_of d s) end i (arm_moves d s end) h r.rest.reads
@@ -125,10 +123,10 @@ module _ {d : ℕ} {s : List ℕ} {end site : ℕ} {sc : BlockSpan} {code : Code
   pub cases_arm : (second third : ℕ) → second ≡ end_of s i → third ≡ end_of s second → ArmHere d s end i second third
   cases_arm second third e f = let k = cases_turn in arm_here d s end i (k.item, k.next, k.reads) second third e f
 
-  pub cases_next : (second third body next' : ℕ) (ends : Bool) (group' : Target) (v₁ : Walk) (m₂ : List ℕ) (v₂ : Walk) (m₃ : List ℕ) (v₃ : Walk) (m₄ : List ℕ) (v₄ : Walk) (o₅ m₅ : List ℕ) →
+  pub cases_next : (second third body next' : ℕ) (ends : Bool) (group' : (std.Option ℕ)) (v₁ : Walk) (m₂ : List ℕ) (v₂ : Walk) (m₃ : List ℕ) (v₃ : Walk) (m₄ : List ℕ) (v₄ : Walk) (o₅ m₅ : List ℕ) →
       second ≡ end_of s i → third ≡ end_of s second → ends ≡ (ltb (second + 4) third || leb end third) → body ≡ group_label group v →
-      Labelled (open_code group site) v m₁ v₁ m₂ → Labelled (act (mark next)) v₁ m₂ v₂ m₃ → next' ≡ labels_of v₂ → Labelled (act (new site)) v₂ m₃ v₃ m₄ →
-      Did (arm_code (λ c b. jumps site SwitchLabel next' body then lower_expr c then ending ends body (lower_block b sc)) d s end i) v₃ o₁ m₄ v₄ o₅ m₅ →
+      LabelledFrom (open_code group site) v m₁ v₁ m₂ → LabelledFrom (act (mark next)) v₁ m₂ v₂ m₃ → next' ≡ labels_of v₂ → LabelledFrom (act (new site)) v₂ m₃ v₃ m₄ →
+      Ran (arm_code (λ c b. jumps site SwitchLabel next' body then lower_expr c then ending ends body (lower_block b sc)) d s end i) v₃ o₁ m₄ v₄ o₅ m₅ →
       target_of group' ≡ cond ends none (some body) →
       CasesRest d s end site sc code w o m next' group' third v₄ o₅ m₅
   cases_next second third body next' ends group' v₁ m₂ v₂ m₃ v₃ m₄ v₄ o₅ m₅ e f g b op mk q nw did gr =
@@ -148,8 +146,8 @@ module _ {d : ℕ} {s : List ℕ} {end site : ℕ} {sc : BlockSpan} {code : Code
             (renamed _ _ _ (cases_rest ends k.others site next' body sc (target_of group') gr))))))));
       }
 
-pub cases_end : {d : ℕ} {s : List ℕ} {end site : ℕ} {sc : BlockSpan} {code : Code} {w : Walk} {o m : List ℕ} {next : ℕ} {group : Target} {i : ℕ} {v : Walk} {o₁ m₁ : List ℕ} {z : Walk} {m₂ : List ℕ} →
-    CasesRest d s end site sc code w o m next group i v o₁ m₁ → end ≤ i → Labelled (act (mark next)) v m₁ z m₂ → Did code w o m z o₁ m₂
+pub cases_end : {d : ℕ} {s : List ℕ} {end site : ℕ} {sc : BlockSpan} {code : Code} {w : Walk} {o m : List ℕ} {next : ℕ} {group : (std.Option ℕ)} {i : ℕ} {v : Walk} {o₁ m₁ : List ℕ} {z : Walk} {m₂ : List ℕ} →
+    CasesRest d s end site sc code w o m next group i v o₁ m₁ → end ≤ i → LabelledFrom (act (mark next)) v m₁ z m₂ → Ran code w o m z o₁ m₂
 unfolding lower_stmt cases_of
 cases_end {d} {s} {end} r h k = goes_last (rest_end _ _ _ _ _ _ _ _ _ _ _ (arm_moves d s end) h r.rest) (labelled k)
 
@@ -180,8 +178,8 @@ module _ {d : ℕ} {s : List ℕ} {end site exit : ℕ} {sc : BlockSpan} {code :
   arms_arm second third e f = let k = arms_turn in arm_here d s end i (k.item, k.next, k.reads) second third e f
 
   pub arms_next : (second third next' : ℕ) (v₁ : Walk) (o₂ m₂ : List ℕ) (v₂ : Walk) (m₃ : List ℕ) → second ≡ end_of s i → third ≡ end_of s second →
-      Did (arm_code (λ c b. jump site JumpIfFalse next then lower_expr c then lower_block b sc then jump site Jump exit then act (mark next)) d s end i) v o₁ m₁ v₁ o₂ m₂ →
-      next' ≡ labels_of v₁ → Labelled (act (new site)) v₁ m₂ v₂ m₃ → ArmsRest d s end site exit sc code w o m next' third v₂ o₂ m₃
+      Ran (arm_code (λ c b. jump site JumpIfFalse next then lower_expr c then lower_block b sc then jump site Jump exit then act (mark next)) d s end i) v o₁ m₁ v₁ o₂ m₂ →
+      next' ≡ labels_of v₁ → LabelledFrom (act (new site)) v₁ m₂ v₂ m₃ → ArmsRest d s end site exit sc code w o m next' third v₂ o₂ m₃
   arms_next second third next' v₁ o₂ m₂ v₂ m₃ e f did q nw =
       let k = arms_turn in
       let a = arms_arm second third e f in
@@ -195,7 +193,7 @@ module _ {d : ℕ} {s : List ℕ} {end site exit : ℕ} {sc : BlockSpan} {code :
       }
 
 pub arms_end : {d : ℕ} {s : List ℕ} {end site exit : ℕ} {sc : BlockSpan} {code : Code} {w : Walk} {o m : List ℕ} {next i : ℕ} {v : Walk} {o₁ m₁ : List ℕ} →
-    ArmsRest d s end site exit sc code w o m next i v o₁ m₁ → end ≤ i → Did code w o m v o₁ m₁
+    ArmsRest d s end site exit sc code w o m next i v o₁ m₁ → end ≤ i → Ran code w o m v o₁ m₁
 unfolding lower_stmt branches_of
 arms_end {d} {s} {end} r h = goes_end (rest_end _ _ _ _ _ _ _ _ _ _ _ (arm_moves d s end) h r.rest)
 
@@ -223,7 +221,7 @@ module _ {d : ℕ} {s : List ℕ} {end site : ℕ} {code : Code} {w : Walk} {o m
   heads_arm second third e f = let k = heads_turn in arm_here d s end i (k.item, k.next, k.reads) second third e f
 
   pub heads_next : (second third next' : ℕ) (v₁ : Walk) (m₂ : List ℕ) (v₂ : Walk) (m₃ : List ℕ) (v₃ : Walk) (o₃ : List ℕ) (v₄ : Walk) (o₄ m₄ : List ℕ) → second ≡ end_of s i → third ≡ end_of s second →
-      Labelled (act (mark next)) v m₁ v₁ m₂ → next' ≡ labels_of v₁ → Labelled (act (new site)) v₁ m₂ v₂ m₃ → Emitted (jumps site SwitchLabel next' body) v₂ o₁ v₃ o₃ → Did (expr_code d s end i) v₃ o₃ m₃ v₄ o₄ m₄ →
+      LabelledFrom (act (mark next)) v m₁ v₁ m₂ → next' ≡ labels_of v₁ → LabelledFrom (act (new site)) v₁ m₂ v₂ m₃ → EmittedFrom (jumps site SwitchLabel next' body) v₂ o₁ v₃ o₃ → Ran (expr_code d s end i) v₃ o₃ m₃ v₄ o₄ m₄ →
       HeadsRest d s end site code w o m next' (body + 1) third v₄ o₄ m₄
   heads_next second third next' v₁ m₂ v₂ m₃ v₃ o₃ v₄ o₄ m₄ e f mk q nw j did =
       let k = heads_turn in
@@ -240,7 +238,7 @@ module _ {d : ℕ} {s : List ℕ} {end site : ℕ} {code : Code} {w : Walk} {o m
       }
 
 pub heads_end : {d : ℕ} {s : List ℕ} {end site : ℕ} {code : Code} {w : Walk} {o m : List ℕ} {next body i : ℕ} {v : Walk} {o₁ m₁ : List ℕ} {z : Walk} {m₂ : List ℕ} →
-    HeadsRest d s end site code w o m next body i v o₁ m₁ → end ≤ i → Labelled (act (mark next)) v m₁ z m₂ → Did code w o m z o₁ m₂
+    HeadsRest d s end site code w o m next body i v o₁ m₁ → end ≤ i → LabelledFrom (act (mark next)) v m₁ z m₂ → Ran code w o m z o₁ m₂
 unfolding lower_stmt cases_of
 heads_end {d} {s} {end} r h k = goes_last (rest_end _ _ _ _ _ _ _ _ _ _ _ (arm_moves d s end) h r.rest) (labelled k)
 
@@ -262,7 +260,7 @@ module _ {d : ℕ} {s : List ℕ} {end site local type : ℕ} {code : Code} {w :
   pub elems_turn : Turn (parse_expr d s) end i r.rest.list r.rest.last
   elems_turn = turn (parse_expr d s) end i (expr_moves d s end) h r.rest.reads
 
-  pub elems_next : (next : ℕ) (v₁ : Walk) (o₂ : List ℕ) (v₂ : Walk) (o₃ m₃ : List ℕ) → next ≡ end_of s i → Emitted (element_code site local type k) v o₁ v₁ o₂ → Did (expr_code d s end i) v₁ o₂ m₁ v₂ o₃ m₃ →
+  pub elems_next : (next : ℕ) (v₁ : Walk) (o₂ : List ℕ) (v₂ : Walk) (o₃ m₃ : List ℕ) → next ≡ end_of s i → EmittedFrom (element_code site local type k) v o₁ v₁ o₂ → Ran (expr_code d s end i) v₁ o₂ m₁ v₂ o₃ m₃ →
       ElemsRest d s end site local type code w o m (k + 1) next v₂ o₃ m₃
   elems_next next v₁ o₂ v₂ o₃ m₃ f em did =
       let t = elems_turn in
@@ -273,7 +271,7 @@ module _ {d : ℕ} {s : List ℕ} {end site local type : ℕ} {code : Code} {w :
         few = omega (arith, r.few, z.head, q);
       }
 
-pub elems_end : {d : ℕ} {s : List ℕ} {end site local type : ℕ} {code : Code} {w : Walk} {o m : List ℕ} {k i : ℕ} {v : Walk} {o₁ m₁ : List ℕ} → ElemsRest d s end site local type code w o m k i v o₁ m₁ → end ≤ i → Did code w o m v o₁ m₁
+pub elems_end : {d : ℕ} {s : List ℕ} {end site local type : ℕ} {code : Code} {w : Walk} {o m : List ℕ} {k i : ℕ} {v : Walk} {o₁ m₁ : List ℕ} → ElemsRest d s end site local type code w o m k i v o₁ m₁ → end ≤ i → Ran code w o m v o₁ m₁
 unfolding lower_elements exprs_of
 elems_end {d} {s} {end} r h = goes_end (rest_end _ _ _ _ _ _ _ _ _ _ _ (expr_moves d s end) h r.rest)
 

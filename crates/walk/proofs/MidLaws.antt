@@ -1,4 +1,5 @@
 -- Counting cases; a switch whose default stands among its cases. Assumes nothing.
+use Rattle.std.specs.Prelude as std
 use Prim.Native.Nat.{ℕ, zero, suc, ◌+◌, ◌-◌, ◌≤◌, ◌<◌}
 use mathlib.Core.Path.{◌≡◌, refl, sym, ap, ◌∙◌}
 use mathlib.Core.Bool.{Bool, true, false, cond, not, ◌&&◌}
@@ -19,12 +20,12 @@ use Rattle.ir.specs.Places.{end_of}
 use Rattle.ir.specs.declared.Class.TheVariants.{Statement}
 use Rattle.ir.proofs.Inversion.{fill_none}
 use Rattle.ir.proofs.StmtPlaces.{arm_moves}
+use Rattle.instr.specs.declared.refusals.Refusal.{Refusal}
 use Rattle.steps.specs.Running.{run, move}
-use Rattle.steps.specs.Walked.{Accepted, DefaultHere, Cased, arms_from, cases_from, list_of, code_of, ran, labels_of, default_from, default_of, default_answer, mid_code, inside_code, fill_code, mark_if, same_as, Did, Emitted, Labelled}
-use Rattle.steps.specs.declared.Walk.{Walk}
+use Rattle.steps.specs.Walked.{Accepted, DefaultHere, Cased, arms_from, cases_from, list_of, code_of, ran, labels_of, default_from, default_of, default_answer, mid_code, inside_code, fill_code, mark_if, same_as, Ran, EmittedFrom, LabelledFrom, Walk}
 use Rattle.laws.proofs.Results.{onward_assoc, onward_same}
 use Rattle.laws.proofs.Trees.{length_cases_law}
-use Rattle.steps.proofs.StepLaws.{fresh_same, labelled, emitted, recode, both, nothing, SameRun}
+use Rattle.steps.proofs.StepLaws.{fresh, labelled, emit_stays, emitted, recode, rerun, both, nothing, stays, SameRun}
 use Rattle.steps.proofs.RunLaws.{Goes, goes_on, one_step, renamed, goes_last, goes_end, Rest, rest_next, rest_end, Turn, turn, listed}
 use Rattle.walk.proofs.StmtCode.{ArmHere, arm_here, no_default_code, some_default, default_some, block_code}
 use Rattle.walk.proofs.CaseLaws.{skip_step, arm_of, arm_ends, arm_code_is, bodies_from, bodies_below, bodies_at, bodies_above}
@@ -123,8 +124,8 @@ module _ (k index base dflt d : ℕ) (s : List ℕ) (stop end : ℕ) (sc : Block
       go true e = bodies_below k index base dflt the_default sc x xs (ltb-true k index e)
       go false e = bodies_above k index base dflt the_default sc x xs (let z = ltb-false k index e in omega (arith, z, eqb-false k index q))
 
-  default_turn : (here : ℕ) {v v₁ v₂ : Walk} {o₁ m₁ m₂ o₃ m₃ : List ℕ} → here ≡ same_as k index → Labelled (mark_if here dflt) v m₁ v₁ m₂ →
-      Did (code_of (λ z. lower_default z sc) (default_from here d s stop end)) v₁ o₁ m₂ v₂ o₃ m₃ → Goes (bodies_from k index base dflt the_default sc (x ∷ xs)) v o₁ m₁ the_rest v₂ o₃ m₃
+  default_turn : (here : ℕ) {v v₁ v₂ : Walk} {o₁ m₁ m₂ o₃ m₃ : List ℕ} → here ≡ same_as k index → LabelledFrom (mark_if here dflt) v m₁ v₁ m₂ →
+      Ran (code_of (λ z. lower_default z sc) (default_from here d s stop end)) v₁ o₁ m₂ v₂ o₃ m₃ → Goes (bodies_from k index base dflt the_default sc (x ∷ xs)) v o₁ m₁ the_rest v₂ o₃ m₃
   default_turn here {v} {v₁} {v₂} {o₁} {m₁} {m₂} {o₃} {m₃} e mk df = go (eqb k index) refl
     where
       go : (b : Bool) → eqb k index ≡ b → Goes (bodies_from k index base dflt the_default sc (x ∷ xs)) v o₁ m₁ the_rest v₂ o₃ m₃
@@ -173,8 +174,8 @@ module _ {d : ℕ} {s : List ℕ} {end stop index base dflt : ℕ} {sc : BlockSp
   bodies_arm second third e f = let t = bodies_turn in arm_here d s end i (t.item, t.next, t.reads) second third e f
 
   pub bodies_next : (second third here : ℕ) (v₁ : Walk) (m₂ : List ℕ) (v₂ : Walk) (o₃ m₃ : List ℕ) (v₃ : Walk) (m₄ : List ℕ) (v₄ : Walk) (o₅ m₅ : List ℕ) → second ≡ end_of s i → third ≡ end_of s second → here ≡ same_as k index →
-      Labelled (mark_if here dflt) v m₁ v₁ m₂ → Did (code_of (λ z. lower_default z sc) (default_from here d s stop end)) v₁ o₁ m₂ v₂ o₃ m₃ → Labelled (act (mark (base + k))) v₂ m₃ v₃ m₄ →
-      Did (fill_code Statement d s third (second + 4) sc) v₃ o₃ m₄ v₄ o₅ m₅ → BodiesRest d s end stop index base dflt sc code w o m (k + 1) third v₄ o₅ m₅
+      LabelledFrom (mark_if here dflt) v m₁ v₁ m₂ → Ran (code_of (λ z. lower_default z sc) (default_from here d s stop end)) v₁ o₁ m₂ v₂ o₃ m₃ → LabelledFrom (act (mark (base + k))) v₂ m₃ v₃ m₄ →
+      Ran (fill_code Statement d s third (second + 4) sc) v₃ o₃ m₄ v₄ o₅ m₅ → BodiesRest d s end stop index base dflt sc code w o m (k + 1) third v₄ o₅ m₅
   bodies_next second third here v₁ m₂ v₂ o₃ m₃ v₃ m₄ v₄ o₅ m₅ e f g mk df ml did =
       let t = bodies_turn in
       let a = bodies_arm second third e f in
@@ -196,7 +197,7 @@ bodies_none k index base dflt p sc = go (leb k index) refl
     go false e = rw (bodies_from, e)
 
 pub bodies_end : {d : ℕ} {s : List ℕ} {end stop index base dflt : ℕ} {sc : BlockSpan} {code : Code} {w : Walk} {o m : List ℕ} {k i : ℕ} {v : Walk} {o₁ m₁ : List ℕ} →
-    BodiesRest d s end stop index base dflt sc code w o m k i v o₁ m₁ → end ≤ i → Did code w o m v o₁ m₁
+    BodiesRest d s end stop index base dflt sc code w o m k i v o₁ m₁ → end ≤ i → Ran code w o m v o₁ m₁
 bodies_end {d} {s} {end} {stop} {index} {base} {dflt} {sc} {k = k} r h =
     goes_end (goes_on (rest_end _ _ _ _ _ _ _ _ _ _ _ (arm_moves d s end) h r.rest) (renamed _ _ _ (bodies_none k index base dflt (lower_default (default_of 1 d s stop end) sc) sc)))
 
@@ -208,22 +209,6 @@ many_back at zero p = record { alike = λ s. refl }
 many_back at (suc k) p = record {
   alike = λ s.
       onward_assoc (move (new at) s) (run (many at k done)) (run p) ∙ onward_same (move (new at) s) (run (many at k done then p)) (run (many at k p)) (λ c _. (many_back at k p).alike c);
-}
-
-first_of : (at n : ℕ) (p : Code) → SameRun (many at (n + 1) done then p) (act (new at) then many at n p)
-unfolding many run
-first_of at n p =
-    let e : n + 1 ≡ suc n = omega arith in
-    rw e (record { alike = λ s. onward_assoc (move (new at) s) (run (many at n done)) (run p) ∙ onward_same (move (new at) s) (run (many at n done then p)) (run (many at n p)) (λ c _. (many_back at n p).alike c) })
-
-fresh_many : (at n : ℕ) (k : ℕ → Code) (l : ℕ) {w v : Walk} {o m m' : List ℕ} → l ≡ labels_of w → Labelled (many at (n + 1) done) w m v m' → Goes (label at (λ b. many at n (k b))) w o m (k l) v o m'
-unfolding run
-fresh_many at n k l {w = w} {o = o} {m = m} e d = record {
-  same = ap (λ x. onward x (run (k l))) (d.did o).same ∙ onward_assoc (ran w o m) (run (many at (n + 1) done)) (run (k l))
-      ∙ onward_same (ran w o m) (run (many at (n + 1) done then k l)) (run (act (new at) then many at n (k l))) (λ c _. (first_of at n (k l)).alike c)
-      ∙ sym (onward_assoc (ran w o m) (run (act (new at))) (run (many at n (k l)))) ∙ fresh_same at (λ b. many at n (k b)) w o m l e;
-  outs = refl;
-  marked = (d.did o).marked;
 }
 
 -- 4. The whole
@@ -258,22 +243,22 @@ module _ (d : ℕ) (s : List ℕ) (end at stop site first index n : ℕ) (sc : B
   cases_long : n ≡ length_cases (cases_of acc.0)
   cases_long = count ∙ ap length (listed _ _ _ acc.2) ∙ sym (length_cases_law acc.0)
 
-  pub mid_did : (body : ℕ) {w w₁ w₂ w₃ w₄ r : Walk} {o m m₁ o₂ m₂ o₃ o₄ o₅ m₅ : List ℕ} → body ≡ labels_of w → Labelled (many site (n + 1) done) w m w₁ m₁ →
-      Did (code_of (λ cs. lower_matchers (cases_of cs) site first body) (arms_from d s end at)) w₁ o m₁ w₂ o₂ m₂ →
-      Emitted (instr site SwitchDefault 0) w₂ o₂ w₃ o₃ → Emitted (jump site Jump (body + n)) w₃ o₃ w₄ o₄ →
-      Did (code_of (λ cs. lower_bodies (cases_of cs) index body (body + n) (lower_default (default_of 1 d s stop end) sc) sc) (arms_from d s end at)) w₄ o₄ m₂ r o₅ m₅ →
-      Did (code_of (λ cs. mid_code cs site first index (default_of 1 d s stop end) sc) (arms_from d s end at)) w o m r o₅ m₅
+  pub mid_did : (body : ℕ) {w w₀ w₁ w₂ w₃ w₄ r : Walk} {o m m₀ m₁ o₂ m₂ o₃ o₄ o₅ m₅ : List ℕ} → body ≡ labels_of w → LabelledFrom (act (new site)) w m w₀ m₀ → LabelledFrom (many site n done) w₀ m₀ w₁ m₁ →
+      Ran (code_of (λ cs. lower_matchers (cases_of cs) site first body) (arms_from d s end at)) w₁ o m₁ w₂ o₂ m₂ →
+      EmittedFrom (instr site SwitchDefault 0) w₂ o₂ w₃ o₃ → EmittedFrom (jump site Jump (body + n)) w₃ o₃ w₄ o₄ →
+      Ran (code_of (λ cs. lower_bodies (cases_of cs) index body (body + n) (lower_default (default_of 1 d s stop end) sc) sc) (arms_from d s end at)) w₄ o₄ m₂ r o₅ m₅ →
+      Ran (code_of (λ cs. mid_code cs site first index (default_of 1 d s stop end) sc) (arms_from d s end at)) w o m r o₅ m₅
   unfolding mid_code
-  mid_did body e mk h p j b =
+  mid_did body e one mk h p j b =
       let cs = acc.0 in
       let D = default_of 1 d s stop end in
       let f : ℕ → Code = λ c. lower_matchers (cases_of cs) site first c then instr site SwitchDefault 0 then jump site Jump (c + n) then lower_bodies (cases_of cs) index c (c + n) (lower_default D sc) sc in
       let z : code_of (λ cs. mid_code cs site first index D sc) (arms_from d s end at) ≡ label site (λ c. many site n (f c)) =
       code_is (λ cs. mid_code cs site first index D sc) (arms_from d s end at) cs acc.1 acc.2 ∙ rw (mid_code, ← cases_long) in
-      recode z (goes_last (fresh_many site n f body e mk)
+      recode z (fresh site (λ c. many site n (f c)) e (labelled one) (rerun (many_back site n (f body)) (both (labelled mk)
       (both (recode (sym (code_is (λ cs. lower_matchers (cases_of cs) site first body) (arms_from d s end at) cs acc.1 acc.2)) h)
       (both (emitted p) (both (emitted j)
-      (recode (sym (code_is (λ cs. lower_bodies (cases_of cs) index body (body + n) (lower_default D sc) sc) (arms_from d s end at) cs acc.1 acc.2)) b)))))
+      (recode (sym (code_is (λ cs. lower_bodies (cases_of cs) index body (body + n) (lower_default D sc) sc) (arms_from d s end at) cs acc.1 acc.2)) b)))))))
 
   module _ (there : ℕ) (here : DefaultHere there d s stop end) where
     none_is : there ≡ 0 → default_of there d s stop end ≡ absent
@@ -303,41 +288,49 @@ module _ (d : ℕ) (s : List ℕ) (end at stop site first index n : ℕ) (sc : B
     inside_is b e = code_is _ (arms_from d s end at) acc.0 acc.1 acc.2 ∙ ap inside_of (mid_test ∙ sym e)
 
     pub inside_mid : (b : Bool) {w r : Walk} {o m o' m' : List ℕ} → b ≡ (not (eqb there 0) && ltb index n) → b ≡ true →
-        Did (code_of (λ cs. mid_code cs site first index (default_of 1 d s stop end) sc) (arms_from d s end at)) w o m r o' m' → Did (inside_for there index d s end at stop site first sc) w o m r o' m'
+        Ran (code_of (λ cs. mid_code cs site first index (default_of 1 d s stop end) sc) (arms_from d s end at)) w o m r o' m' → Ran (inside_for there index d s end at stop site first sc) w o m r o' m'
     inside_mid b e t x =
         let z : default_of there d s stop end ≡ default_of 1 d s stop end = ap default_answer (some_default there d s stop end (is_there there index n b e t)) in
         recode (inside_is b e ∙ ap inside_of t ∙ ap (λ D. mid_code acc.0 site first index D sc) z ∙ sym (code_is (λ cs. mid_code cs site first index (default_of 1 d s stop end) sc) (arms_from d s end at) acc.0 acc.1 acc.2)) x
 
     module _ (b : Bool) (e : b ≡ (not (eqb there 0) && ltb index n)) (t : b ≡ false) {w v : Walk} {o m o₁ m₁ : List ℕ}
-        (x : Did (code_of (λ cs. lower_cases (cases_of cs) site first none sc) (arms_from d s end at)) w o m v o₁ m₁) where
-      the_cases : Did (lower_cases (cases_of acc.0) site first none sc) w o m v o₁ m₁
+        (x : Ran (code_of (λ cs. lower_cases (cases_of cs) site first none sc) (arms_from d s end at)) w o m v o₁ m₁) where
+      the_cases : Ran (lower_cases (cases_of acc.0) site first none sc) w o m v o₁ m₁
       the_cases = recode (sym (code_is (λ cs. lower_cases (cases_of cs) site first none sc) (arms_from d s end at) acc.0 acc.1 acc.2)) x
 
-      pub inside_none : there ≡ 0 → Did (inside_for there index d s end at stop site first sc) w o m v o₁ m₁
+      pub inside_none : there ≡ 0 → Ran (inside_for there index d s end at stop site first sc) w o m v o₁ m₁
       unfolding lower_stmt
       inside_none z = recode (inside_is b e ∙ ap inside_of t ∙ ap (λ D. lower_cases (cases_of acc.0) site first none sc then lower_last D site sc) (none_is z)) (both the_cases nothing)
 
-      pub inside_last : {u r : Walk} {o₂ o₃ m₃ : List ℕ} → (there ≡ 0 → ⊥) → Emitted (instr site SwitchDefault 0) v o₁ u o₂ → Did (fill_code Statement d s stop (end + 4) sc) u o₂ m₁ r o₃ m₃ →
-          Did (inside_for there index d s end at stop site first sc) w o m r o₃ m₃
+      pub inside_last : {u r : Walk} {o₂ o₃ m₃ : List ℕ} → (there ≡ 0 → ⊥) → EmittedFrom (instr site SwitchDefault 0) v o₁ u o₂ → Ran (fill_code Statement d s stop (end + 4) sc) u o₂ m₁ r o₃ m₃ →
+          Ran (inside_for there index d s end at stop site first sc) w o m r o₃ m₃
       unfolding lower_stmt
       inside_last z p y =
           let k = default_some there d s stop end z (here z) in
           recode (inside_is b e ∙ ap inside_of t ∙ ap (λ D. lower_cases (cases_of acc.0) site first none sc then lower_last D site sc) (some_is z))
           (both the_cases (both (emitted p) (recode (sym (block_code d s stop (end + 4) sc k.1.0 stop k.1.1)) y)))
 
+      -- it was refused
+      pub inside_refused : {q : Refusal} → v ≡ std.Err q → Ran (inside_for there index d s end at stop site first sc) w o m v o₁ m₁
+      inside_refused {q} f = go (eqb there 0) refl
+        where
+          go : (z : Bool) → eqb there 0 ≡ z → Ran (inside_for there index d s end at stop site first sc) w o m v o₁ m₁
+          go true z = inside_none (eqb-true there 0 z)
+          go false z = inside_last (eqb-false there 0 z) (emit_stays (instr site SwitchDefault 0) v o₁ q f) (stays (fill_code Statement d s stop (end + 4) sc) v o₁ m₁ q f)
+
 -- the places and fields that the code computes
 module _ (d : ℕ) (s : List ℕ) (stop p there index list : ℕ) (e : list ≡ end_of s (p + 5)) (f : there ≡ get_or s (p + 4) 0) (g : index ≡ number 4 s p) where
   pub cased_at : Cased (get_or s (p + 4) 0) d s stop p → Accepted (arms_from d s list (p + 9)) × DefaultHere there d s stop list × (p + 9 ≤ list) × (list ≤ stop)
   cased_at k = rw (e, f) (k.cases, k.default, k.head, k.tail)
 
-  pub as_inside : (site first : ℕ) (sc : BlockSpan) {w r : Walk} {o m o' m' : List ℕ} → Did (inside_for there index d s list (p + 9) stop site first sc) w o m r o' m' → Did (inside_code d s stop p site first sc) w o m r o' m'
+  pub as_inside : (site first : ℕ) (sc : BlockSpan) {w r : Walk} {o m o' m' : List ℕ} → Ran (inside_for there index d s list (p + 9) stop site first sc) w o m r o' m' → Ran (inside_code d s stop p site first sc) w o m r o' m'
   unfolding inside_code
   as_inside site first sc x = rw (e, f, g) at x
 
 -- the same of a default before a case
 module _ (d : ℕ) (s : List ℕ) (stop p index list : ℕ) (e : list ≡ end_of s (p + 5)) (g : index ≡ number 4 s p) where
   abbrev Middle : (index list site first : ℕ) (sc : BlockSpan) (w : Walk) (o m : List ℕ) (r : Walk) (o' m' : List ℕ) → Type 0
-  Middle i l site first sc w o m r o' m' = Did (code_of (λ cs. mid_code cs site first i (default_of 1 d s stop l) sc) (arms_from d s l (p + 9))) w o m r o' m'
+  Middle i l site first sc w o m r o' m' = Ran (code_of (λ cs. mid_code cs site first i (default_of 1 d s stop l) sc) (arms_from d s l (p + 9))) w o m r o' m'
 
   pub mid_cased : (n : ℕ) → n ≡ length (list_of (cases_from d s p)) → Cased 1 d s stop p → Accepted (arms_from d s list (p + 9)) × DefaultHere 1 d s stop list × (p + 9 ≤ list) × (list ≤ stop) × (n ≡ length (list_of (arms_from d s list (p + 9))))
   mid_cased n h k = rw e (k.cases, k.default, k.head, k.tail, h)

@@ -19,13 +19,12 @@ use Rattle.ir.specs.Places.{end_of, RunAt, DefaultAt, none, some, ReturnAt, noth
 use Rattle.ir.specs.declared.Class.TheVariants.{Statement, Expression}
 use Rattle.ir.proofs.Inversion.{stmt_at, run_ok, give_ok}
 use Rattle.ir.proofs.StmtPlaces.{eval_at, block_at, while_at, break_at, continue_at, branches_at, switch_at, init_array_at, init_default_at, returned_at, arm_at, no_other}
-use Rattle.steps.specs.Walked.{Accepted, Did, Ended, DefaultHere, Cased, inside_code, mid_code, default_answer, exprs_from, list_of, default_from, arms_from, cases_from, code_of, expr_code, stmt_code, fill_code, arm_code}
+use Rattle.steps.specs.Walked.{Accepted, Ran, Ended, DefaultHere, Cased, inside_code, mid_code, default_answer, exprs_from, list_of, default_from, arms_from, cases_from, code_of, expr_code, stmt_code, fill_code, arm_code, Walk}
 use Rattle.laws.proofs.Arms.{Nones}
 use Rattle.walk.proofs.ExprCode.{Here, here, child, run_at}
 use Rattle.laws.proofs.Trees.{length_exprs_law}
 use Rattle.steps.proofs.StepLaws.{recode, SameRun, same_on, same_code}
 use Rattle.steps.proofs.RunLaws.{single_run, single_code}
-use Rattle.steps.specs.declared.Walk.{Walk}
 
 pub block_code : (d : ℕ) (s : List ℕ) (end at : ℕ) (span : BlockSpan) (xs : List Stmt) (n : ℕ) → filling (parse_stmt d s) end at ≡ ok xs n → fill_code Statement d s end at span ≡ lower_block (block_of xs) span
 unfolding code_of
@@ -276,7 +275,7 @@ no_default_code there d s end at sc e = no_default there d s end at (λ x. lower
 
 -- the same cases in the same scope by another name
 pub rescope_inside : (d : ℕ) (s : List ℕ) (stop p site first : ℕ) {u u' : BlockSpan} {w : Walk} {o m : List ℕ} {r : Walk} {o' m' : List ℕ} → u' ≡ u →
-    Did (inside_code d s stop p site first u') w o m r o' m' → Did (inside_code d s stop p site first u) w o m r o' m'
+    Ran (inside_code d s stop p site first u') w o m r o' m' → Ran (inside_code d s stop p site first u) w o m r o' m'
 rescope_inside d s stop p site first e x = recode (ap (inside_code d s stop p site first) (sym e)) x
 
 -- a default that stands among the cases: whatever its mark, it is that of mark 1

@@ -1,25 +1,28 @@
-use Rattle.std.proofs.Common.{arith}
+use Rattle.std.proofs.Common.{arith, refl}
+use Rattle.steps.specs.declared.counters.Counters.{Counters}
 use Rattle.steps.proofs.RunLaws.{expr_placed}
-use Rattle.steps.proofs.FlagLaws.{flags_start, flags_next, flags_end, arg_turn}
+use Rattle.steps.proofs.StepLaws.{left_exit}
+use Rattle.steps.proofs.FlagLaws.{flags_next, flags_end, flags_stop, arg_turn}
 use Rattle.steps.proofs.calls.check_flags.Goals as goal
 
-pub loop-i-init : goal.loop-i-init
-loop-i-init c = flags_start _ _ _ _ _ c.requires.accepted c.requires.at_le_end.0
+-- the invariant of some counters
+abbrev some : Counters
+some = record { offset = 0; labels = 0; count = 0 }
 
 pub overflow_add-k : goal.overflow_add-k
-overflow_add-k c = omega (arith, c.loop-i.invariant.few, c.loop-i.invariant.to, c.ranges)
+overflow_add-k c = let r = c.loop-i.invariant some in omega (arith, r.few, r.to, c.ranges)
 
 pub end_of-i-requires : goal.end_of-i-requires
-end_of-i-requires c = omega (arith, (expr_placed _ _ _ _ (arg_turn _ _ _ _ c.loop-i.invariant.acc c.loop-i-test.true).reads).0, c.requires.at_le_end)
+end_of-i-requires c = omega (arith, (expr_placed _ _ _ _ (arg_turn _ _ _ _ (c.loop-i.invariant some).acc c.loop-i-test.true).reads).0, c.requires.at_le_end)
 
 pub overflow_add-k-in-loop-i : goal.overflow_add-k-in-loop-i
-overflow_add-k-in-loop-i c = omega (arith, c.loop-i.invariant.few, c.loop-i.invariant.to, c.ranges)
-
-pub loop-i-smaller : goal.loop-i-smaller
-loop-i-smaller c = omega (arith, c.end_of-i.ensures, c.loop-i-test.true)
+overflow_add-k-in-loop-i c = let r = c.loop-i.invariant some in omega (arith, r.few, r.to, c.ranges)
 
 pub loop-i-preserved : goal.loop-i-preserved
-loop-i-preserved c = flags_next c.loop-i.invariant c.loop-i-test.true _ _ _ _ c.is_prvalue_ref.ensures c.flag_fits-fits.ensures c.require-v.ensures c.end_of-i.ensures
+loop-i-preserved c = λ k. flags_next (c.loop-i.invariant k) c.loop-i-test.true _ _ _ _ c.is_prvalue_ref.ensures c.flag_fits-fits.ensures (c.in_ok-require.ensures k) c.end_of-i.ensures
+
+pub returns-in_err-require : goal.returns-in_err-require
+returns-in_err-require c = λ k. left_exit _ _ c.from_residual.ensures.1 k (flags_stop (flags_next (c.loop-i.invariant k) c.loop-i-test.true _ _ _ _ c.is_prvalue_ref.ensures c.flag_fits-fits.ensures (c.in_err-require.ensures k) refl))
 
 pub returns : goal.returns
-returns c = flags_end c.loop-i.invariant c.loop-i-test.false
+returns c = λ k. flags_end (c.loop-i.invariant k) c.loop-i-test.false

@@ -14,5 +14,5 @@ flags_of-flags-requires c =
 pub returns-then-s-at-eq0 : goal.returns-then-s-at-eq0
 returns-then-s-at-eq0 c = invoke_virtual_law _ _ _ _ _ _ (c.flags_of-flags.ensures ∙ ap (λ x. flags_of (exprs_of (list_of (exprs_from c.args.depth c.args.s.now c.args.end (c.args.at + 16 + x)))) 1 % 2 ^ 16) c.wide.ensures.0) c.u16_at-line.ensures.0 _ c.if-s-at-eq0.true c.u32_at-name.ensures.0 c.invoke.ensures
 
-pub returns : goal.returns
-returns c = invoke_static_law _ _ _ _ _ _ (c.flags_of-flags.ensures ∙ ap (λ x. flags_of (exprs_of (list_of (exprs_from c.args.depth c.args.s.now c.args.end (c.args.at + 16 + x)))) 1 % 2 ^ 16) c.wide.ensures.0) c.u16_at-line.ensures.0 _ c.if-s-at-eq0.false c.u32_at-function.ensures.0 c.invoke-2.ensures
+pub returns-else-s-at-eq0 : goal.returns-else-s-at-eq0
+returns-else-s-at-eq0 c = invoke_static_law _ _ _ _ _ _ (c.flags_of-flags.ensures ∙ ap (λ x. flags_of (exprs_of (list_of (exprs_from c.args.depth c.args.s.now c.args.end (c.args.at + 16 + x)))) 1 % 2 ^ 16) c.wide.ensures.0) c.u16_at-line.ensures.0 _ c.if-s-at-eq0.false c.u32_at-function.ensures.0 c.invoke-else-s-at-eq0.ensures

@@ -1,4 +1,4 @@
-use Rattle.std.proofs.Common.{arith}
+use Rattle.std.proofs.Common.{arith, refl}
 use Rattle.steps.proofs.RunLaws.{expr_placed}
 use Rattle.steps.proofs.FlagLaws.{bits_start, bits_next, bits_end, arg_turn}
 use Rattle.steps.proofs.calls.flags_of.Goals as goal
@@ -13,7 +13,7 @@ pub loop-i-smaller : goal.loop-i-smaller
 loop-i-smaller c = omega (arith, c.end_of-i.ensures, c.loop-i-test.true)
 
 pub loop-i-preserved : goal.loop-i-preserved
-loop-i-preserved c = bits_next c.loop-i.invariant c.loop-i-test.true _ _ _ _ _ c.is_prvalue_ref.ensures c.bit_if.ensures c.wrapping_add_u16-flags.ensures.value c.wrapping_add_u16-bit.ensures.value c.end_of-i.ensures
+loop-i-preserved c = bits_next c.loop-i.invariant c.loop-i-test.true _ _ _ _ _ c.is_prvalue_ref.ensures c.bit_if-flags.ensures refl refl c.end_of-i.ensures
 
 pub returns : goal.returns
 returns c = bits_end c.loop-i.invariant c.loop-i-test.false

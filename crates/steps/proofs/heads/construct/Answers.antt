@@ -1,5 +1,9 @@
-use Rattle.steps.proofs.HeadLaws.{constructed}
+use Rattle.steps.proofs.StepLaws.{emit_exit}
+use Rattle.steps.proofs.HeadLaws.{constructed, construct_refused}
 use Rattle.steps.proofs.heads.construct.Goals as goal
 
+pub returns-in_err-require : goal.returns-in_err-require
+returns-in_err-require c = emit_exit _ _ c.from_residual.ensures.1 _ (construct_refused _ _ _ _ _ c.count-n.ensures (c.in_err-require.ensures c.args.c.now))
+
 pub returns : goal.returns
-returns c = constructed _ _ _ _ _ _ c.count-n.ensures c.u32_at.ensures.0 c.require-w1.ensures c.plain.ensures
+returns c = constructed _ _ _ _ _ _ c.count-n.ensures c.u32_at.ensures.0 (c.in_ok-require.ensures c.args.c.now) c.plain.ensures

@@ -1,7 +1,8 @@
-use Rattle.std.proofs.Common.{arith}
+use Rattle.std.proofs.Common.{arith, rules, ◌+◌, ◌-◌, get_or}
 use Rattle.steps.proofs.RunLaws.{expr_placed}
 use Rattle.steps.proofs.StepLaws.{none_emitted}
 use Rattle.steps.proofs.HeadLaws.{const_here, construct_here, intrinsic_here, nop_head, const_head, null_head, new_head, construct_head, assign_head, index_head, cast_head, local_head, intrinsic_head, no_head}
+use Rattle.ir.specs.Places.{end_of}
 use Rattle.steps.proofs.heads.head.Goals as goal
 
 pub overflow_add-kind : goal.overflow_add-kind
@@ -19,14 +20,14 @@ overflow_add-at c = omega (arith, (expr_placed _ _ _ _ c.requires.accepted.2).0,
 pub overflow_add-at-in-4 : goal.overflow_add-at-in-4
 overflow_add-at-in-4 c = omega (arith, (expr_placed _ _ _ _ c.requires.accepted.2).0, c.requires.end_in_bounds, c.ranges)
 
-pub end_of-stop-requires : goal.end_of-stop-requires
-end_of-stop-requires c = omega (arith, (expr_placed _ _ _ _ c.requires.accepted.2).0, c.requires.end_in_bounds)
+pub end_of-requires : goal.end_of-requires
+end_of-requires c = omega (arith, (expr_placed _ _ _ _ c.requires.accepted.2).0, c.requires.end_in_bounds)
 
 pub overflow_sub-depth : goal.overflow_sub-depth
 overflow_sub-depth c = omega (arith, (expr_placed _ _ _ _ c.requires.accepted.2).0)
 
 pub construct-requires : goal.construct-requires
-construct-requires c = let k = construct_here _ _ _ _ c.requires.accepted c.in-5.is in rw c.end_of-stop.ensures record { accepted = k.1; at_bound = (k.0, omega (arith, c.end_of-stop.ensures, (expr_placed _ _ _ _ c.requires.accepted.2).0, c.requires.end_in_bounds)) }
+construct-requires c = let k = construct_here _ _ _ _ c.requires.accepted c.in-5.is in rw c.end_of.ensures record { accepted = k.1; at_bound = (k.0, omega (arith, c.end_of.ensures, (expr_placed _ _ _ _ c.requires.accepted.2).0, c.requires.end_in_bounds)) }
 
 pub overflow_add-at-in-8 : goal.overflow_add-at-in-8
 overflow_add-at-in-8 c = omega (arith, (expr_placed _ _ _ _ c.requires.accepted.2).0, c.requires.end_in_bounds, c.ranges)
@@ -62,7 +63,7 @@ pub returns-in-4 : goal.returns-in-4
 returns-in-4 c = new_head _ _ _ _ _ c.in-4.is c.u32_at.ensures.0 c.plain-in-4.ensures
 
 pub returns-in-5 : goal.returns-in-5
-returns-in-5 c = construct_head _ _ _ _ _ c.in-5.is c.end_of-stop.ensures c.construct.ensures
+returns-in-5 c = construct_head _ _ _ _ _ c.in-5.is c.end_of.ensures c.construct.ensures
 
 pub returns-in-6 : goal.returns-in-6
 returns-in-6 c = assign_head _ _ _ _ c.in-6.is c.plain-in-6.ensures
@@ -80,4 +81,4 @@ pub returns-in-12 : goal.returns-in-12
 returns-in-12 c = intrinsic_head _ _ _ _ c.in-12.is c.intrinsic.ensures
 
 pub returns-in_default : goal.returns-in_default
-returns-in_default c = rw (no_head _ _ _ _ _ c.in_default.in_default-own.rest) none_emitted
+returns-in_default c = rw (no_head (c.args.depth - 1) c.args.s.now (end_of c.args.s.now c.args.at) c.args.at (get_or c.args.s.now (c.args.at + 4) 0) (search rules)) none_emitted

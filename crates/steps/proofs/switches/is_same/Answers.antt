@@ -1,8 +1,6 @@
-use Rattle.steps.proofs.LeafLaws.{same_yes, same_no}
+use Rattle.std.proofs.Common.{◌∙◌}
+use Rattle.steps.proofs.LeafLaws.{same_number}
 use Rattle.steps.proofs.switches.is_same.Goals as goal
 
-pub returns-then-k-index : goal.returns-then-k-index
-returns-then-k-index c = same_yes _ _ c.if-k-index.true
-
 pub returns : goal.returns
-returns c = same_no _ _ c.if-k-index.false
+returns c = c.from.ensures ∙ same_number c.args.k c.args.index

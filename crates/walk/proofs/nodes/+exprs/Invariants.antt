@@ -1,3 +1,4 @@
+use Rattle.std.specs.Prelude as std
 use Prim.Native.Nat.{◌+◌, ◌-◌, ◌*◌}
 use Rattle.definitions.specs.Read.{parse_expr}
 use Rattle.ir.specs.declared.Class.TheVariants.{Expression}
@@ -36,13 +37,13 @@ abbrev pub decreases-ternary : goal.decreases-ternary
 decreases-ternary l = 20 * l.depth + 0
 
 abbrev pub invariant-args-loop-i : goal.invariant-args-loop-i
-invariant-args-loop-i l = ArgsRest l.depth l.s l.end l.site (args_code l.depth l.s l.end l.at l.site (marks_from l.s l.params l.n)) l.initial.v l.initial.out l.initial.marks l.p l.left l.i l.v l.out l.marks
+invariant-args-loop-i l = ArgsRest l.depth l.s l.end l.site (args_code l.depth l.s l.end l.at l.site (marks_from l.s l.params l.n)) (std.Ok l.initial.c) l.initial.out l.initial.marks l.p l.left l.i (std.Ok l.c) l.out l.marks
 
 abbrev pub decreases-args-loop-i : goal.decreases-args-loop-i
 decreases-args-loop-i l = l.end - l.i
 
 abbrev pub invariant-exprs-loop-item : goal.invariant-exprs-loop-item
-invariant-exprs-loop-item l = Rest (parse_expr l.depth l.s) (lower_all Expression (span_of l.span)) (fill_code Expression l.depth l.s l.end l.at (span_of l.span)) l.end l.initial.v l.initial.out l.initial.marks l.item l.v l.out l.marks
+invariant-exprs-loop-item l = Rest (parse_expr l.depth l.s) (lower_all Expression (span_of l.span)) (fill_code Expression l.depth l.s l.end l.at (span_of l.span)) l.end (std.Ok l.initial.c) l.initial.out l.initial.marks l.item (std.Ok l.c) l.out l.marks
 
 abbrev pub decreases-exprs-loop-item : goal.decreases-exprs-loop-item
 decreases-exprs-loop-item l = l.end - l.item

@@ -1,3 +1,4 @@
+use Rattle.std.specs.Prelude as std
 use Prim.Native.Nat.{◌*◌, ◌+◌, ◌-◌}
 use Rattle.walk.proofs.CaseLaws.{ArmsRest, CasesRest}
 use Rattle.walk.proofs.MidLaws.{BodiesRest}
@@ -50,25 +51,25 @@ abbrev pub decreases-switch : goal.decreases-switch
 decreases-switch l = 20 * l.depth + 0
 
 abbrev pub invariant-arms-loop-i : goal.invariant-arms-loop-i
-invariant-arms-loop-i l = ArmsRest l.depth l.s l.end l.site l.exit (span_of l.span) (code_of (λ xs. lower_branches (branches_of xs) l.site l.first l.exit (span_of l.span)) (arms_from l.depth l.s l.end l.at)) l.initial.v l.initial.out l.initial.marks l.next l.i l.v l.out l.marks
+invariant-arms-loop-i l = ArmsRest l.depth l.s l.end l.site l.exit (span_of l.span) (code_of (λ xs. lower_branches (branches_of xs) l.site l.first l.exit (span_of l.span)) (arms_from l.depth l.s l.end l.at)) (std.Ok l.initial.c) l.initial.out l.initial.marks l.next l.i (std.Ok l.c) l.out l.marks
 
 abbrev pub decreases-arms-loop-i : goal.decreases-arms-loop-i
 decreases-arms-loop-i l = l.end - l.i
 
 abbrev pub invariant-bodies-loop-i : goal.invariant-bodies-loop-i
-invariant-bodies-loop-i l = BodiesRest l.depth l.s l.end l.stop l.index l.label (l.label + l.n) (span_of l.span) (code_of (λ cs. lower_bodies (cases_of cs) l.index l.label (l.label + l.n) (lower_default (default_of 1 l.depth l.s l.stop l.end) (span_of l.span)) (span_of l.span)) (arms_from l.depth l.s l.end l.at)) l.initial.v l.initial.out l.initial.marks l.k l.i l.v l.out l.marks
+invariant-bodies-loop-i l = BodiesRest l.depth l.s l.end l.stop l.index l.label (l.label + l.n) (span_of l.span) (code_of (λ cs. lower_bodies (cases_of cs) l.index l.label (l.label + l.n) (lower_default (default_of 1 l.depth l.s l.stop l.end) (span_of l.span)) (span_of l.span)) (arms_from l.depth l.s l.end l.at)) (std.Ok l.initial.c) l.initial.out l.initial.marks l.k l.i (std.Ok l.c) l.out l.marks
 
 abbrev pub decreases-bodies-loop-i : goal.decreases-bodies-loop-i
 decreases-bodies-loop-i l = l.end - l.i
 
 abbrev pub invariant-cases-loop-i : goal.invariant-cases-loop-i
-invariant-cases-loop-i l = CasesRest l.depth l.s l.end l.site (span_of l.span) (code_of (λ xs. lower_cases (cases_of xs) l.site l.first none (span_of l.span)) (arms_from l.depth l.s l.end l.at)) l.initial.v l.initial.out l.initial.marks l.next l.group l.i l.v l.out l.marks
+invariant-cases-loop-i l = CasesRest l.depth l.s l.end l.site (span_of l.span) (code_of (λ xs. lower_cases (cases_of xs) l.site l.first none (span_of l.span)) (arms_from l.depth l.s l.end l.at)) (std.Ok l.initial.c) l.initial.out l.initial.marks l.next l.group l.i (std.Ok l.c) l.out l.marks
 
 abbrev pub decreases-cases-loop-i : goal.decreases-cases-loop-i
 decreases-cases-loop-i l = l.end - l.i
 
 abbrev pub invariant-stmts-loop-here : goal.invariant-stmts-loop-here
-invariant-stmts-loop-here l = Rest (parse_stmt l.depth l.s) (lower_all Statement (span_of l.span)) (fill_code Statement l.depth l.s l.end l.at (span_of l.span)) l.end l.initial.v l.initial.out l.initial.marks l.here l.v l.out l.marks
+invariant-stmts-loop-here l = Rest (parse_stmt l.depth l.s) (lower_all Statement (span_of l.span)) (fill_code Statement l.depth l.s l.end l.at (span_of l.span)) l.end (std.Ok l.initial.c) l.initial.out l.initial.marks l.here (std.Ok l.c) l.out l.marks
 
 abbrev pub decreases-stmts-loop-here : goal.decreases-stmts-loop-here
 decreases-stmts-loop-here l = l.end - l.here

@@ -30,7 +30,7 @@ elements-requires c = let k = array_run _ _ _ _ (span_of c.args.span) c.requires
 pub returns-then-first-stop : goal.returns-then-first-stop
 returns-then-first-stop c =
     recode (array_here _ _ _ _ (span_of c.args.span) c.requires.accepted _ c.end_of-stop.ensures _ _ _ c.count-n.ensures c.u32_at-local.ensures.0 c.u32_at-typ.ensures.0 c.requires.at_value ∙ an_array _ _ _ _ _ (run_some _ _ _ _ _ (array_run _ _ _ _ (span_of c.args.span) c.requires.accepted _ c.end_of-stop.ensures c.requires.at_value).1 c.if-first-stop.true c.count-n.ensures))
-    (both (both (emitted c.plain-w1.ensures) (both (emitted c.plain-w2.ensures) (both (emitted c.plain-w3.ensures) nothing))) c.elements.ensures)
+    (both (both (emitted c.plain.ensures) (both (emitted c.plain-then-first-stop.ensures) (both (emitted c.plain-then-first-stop-2.ensures) nothing))) c.elements.ensures)
 
 pub returns : goal.returns
 returns c = recode (array_here _ _ _ _ (span_of c.args.span) c.requires.accepted _ c.end_of-stop.ensures _ _ _ refl c.u32_at-local.ensures.0 c.u32_at-typ.ensures.0 c.requires.at_value ∙ no_array _ _ _ _ _ (run_none _ _ _ _ (array_run _ _ _ _ (span_of c.args.span) c.requires.accepted _ c.end_of-stop.ensures c.requires.at_value).1 c.if-first-stop.false)) nothing

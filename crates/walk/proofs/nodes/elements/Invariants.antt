@@ -1,3 +1,4 @@
+use Rattle.std.specs.Prelude as std
 use Rattle.walk.proofs.CaseLaws.{ElemsRest}
 use Rattle.steps.specs.Walked.{code_of, exprs_from}
 use Rattle.definitions.specs.Lower.{lower_elements}
@@ -6,7 +7,7 @@ use Prim.Native.Nat.{◌-◌}
 use Rattle.walk.proofs.nodes.elements.Given as goal
 
 abbrev pub invariant-loop-i : goal.invariant-loop-i
-invariant-loop-i l = ElemsRest l.depth l.s l.end l.site l.local l.typ (code_of (λ xs. lower_elements (exprs_of xs) l.site l.local l.typ 0) (exprs_from l.depth l.s l.end l.at)) l.initial.v l.initial.out l.initial.marks l.k l.i l.v l.out l.marks
+invariant-loop-i l = ElemsRest l.depth l.s l.end l.site l.local l.typ (code_of (λ xs. lower_elements (exprs_of xs) l.site l.local l.typ 0) (exprs_from l.depth l.s l.end l.at)) (std.Ok l.initial.c) l.initial.out l.initial.marks l.k l.i (std.Ok l.c) l.out l.marks
 
 abbrev pub decreases-loop-i : goal.decreases-loop-i
 decreases-loop-i l = l.end - l.i

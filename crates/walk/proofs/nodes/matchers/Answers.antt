@@ -1,4 +1,6 @@
 use Rattle.walk.proofs.CaseLaws.{heads_start, heads_arm, heads_next, heads_end}
+use Rattle.steps.proofs.RunLaws.{goes_stops}
+use Rattle.steps.proofs.StepLaws.{emit_stays, exit, mark_did, numbered, stays}
 use mathlib.Core.Path.{refl}
 use Prim.Native.Nat.{◌+◌, ◌<◌}
 use native.Mathlib.Omega.{arith}
@@ -10,8 +12,8 @@ loop-i-init c = heads_start _ _ _ _ _ _ _ _ _ _ c.requires.at_le_end.0 c.require
 pub end_of-second-requires : goal.end_of-second-requires
 end_of-second-requires c = let k = heads_arm c.loop-i.invariant c.loop-i-test.true _ _ refl refl in omega (arith, k.one, k.fits, k.tail, c.requires.at_le_end)
 
-pub node-v-requires : goal.node-v-requires
-node-v-requires c = let k = heads_arm c.loop-i.invariant c.loop-i-test.true _ _ c.end_of-second.ensures refl in record { accepted = k.one.reads; end_in_bounds = c.requires.at_le_end.1 }
+pub node-requires : goal.node-requires
+node-requires c = let k = heads_arm c.loop-i.invariant c.loop-i-test.true _ _ c.end_of-second.ensures refl in record { accepted = k.one.reads; end_in_bounds = c.requires.at_le_end.1 }
 
 pub overflow_add-body : goal.overflow_add-body
 overflow_add-body c = let z : c.loop-i.body + 1 < 18446744073709551616 = omega (arith, c.loop-i.invariant.few, c.loop-i-test.true, c.well_formed.0, c.requires.at_le_end) in record { fits = z }
@@ -20,10 +22,16 @@ pub end_of-i-requires : goal.end_of-i-requires
 end_of-i-requires c = let k = heads_arm c.loop-i.invariant c.loop-i-test.true _ _ c.end_of-second.ensures refl in omega (arith, k.fits, k.tail, c.requires.at_le_end)
 
 pub loop-i-preserved : goal.loop-i-preserved
-loop-i-preserved c = heads_next c.loop-i.invariant c.loop-i-test.true _ _ _ _ _ _ _ _ _ _ _ _ c.end_of-second.ensures c.end_of-i.ensures c.mark_label-v.ensures c.labels_of-next.ensures.0 c.new_label-v.ensures c.jumps-v.ensures c.node-v.ensures
+loop-i-preserved c = heads_next c.loop-i.invariant c.loop-i-test.true _ _ _ _ _ _ _ _ _ _ _ _ c.end_of-second.ensures c.end_of-i.ensures (mark_did _ _ _ _ c.mark_label.ensures c.mark_label.auto.marks) (numbered _ c.in_ok-next.ensures.number) c.in_ok-next.ensures.did c.jumps.ensures c.in_ok-node.ensures
+
+pub returns-in_err-next : goal.returns-in_err-next
+returns-in_err-next c = exit _ _ c.from_residual.ensures.1 _ (goes_stops (heads_next c.loop-i.invariant c.loop-i-test.true _ _ _ _ _ _ _ _ _ _ _ _ c.end_of-second.ensures refl (mark_did _ _ _ _ c.mark_label.ensures c.mark_label.auto.marks) refl c.in_err-next.ensures.did (emit_stays _ _ _ _ refl) (stays _ _ _ _ _ refl)).rest.goes)
+
+pub returns-in_err-node : goal.returns-in_err-node
+returns-in_err-node c = exit _ _ c.from_residual-in_err-node.ensures.1 _ (goes_stops (heads_next c.loop-i.invariant c.loop-i-test.true _ _ _ _ _ _ _ _ _ _ _ _ c.end_of-second.ensures refl (mark_did _ _ _ _ c.mark_label.ensures c.mark_label.auto.marks) (numbered _ c.in_ok-next.ensures.number) c.in_ok-next.ensures.did c.jumps.ensures c.in_err-node.ensures).rest.goes)
 
 pub returns : goal.returns
-returns c = heads_end c.loop-i.invariant c.loop-i-test.false c.mark_label.ensures
+returns c = heads_end c.loop-i.invariant c.loop-i-test.false (mark_did _ _ _ _ c.mark_label-2.ensures c.mark_label-2.auto.marks)
 
 pub shape_of-out : goal.shape_of-out
 shape_of-out c = c.loop-i.invariant.rest.goes.outs

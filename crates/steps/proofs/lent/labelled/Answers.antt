@@ -1,6 +1,0 @@
-use Rattle.definitions.specs.Code.{unmarked}
-use Rattle.steps.proofs.lent.labelled.Goals as goal
-
-pub returns : goal.returns
-unfolding unmarked
-returns c = ((cc), c.put_mark.ensures)

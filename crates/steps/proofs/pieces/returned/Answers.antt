@@ -1,7 +1,0 @@
-use Rattle.definitions.specs.Lower.{lower_return_nothing}
-use Rattle.steps.proofs.StepLaws.{emitted_both}
-use Rattle.steps.proofs.pieces.returned.Goals as goal
-
-pub returns : goal.returns
-unfolding lower_return_nothing
-returns c = emitted_both c.plain-w1.ensures c.plain.ensures

@@ -1,7 +1,0 @@
-use Rattle.std.proofs.Common.{refl}
-use Rattle.steps.specs.Walked.{span_of, target_of}
-use Rattle.steps.proofs.spans.in_switch.Goals as goal
-
-pub returns : goal.returns
-unfolding span_of target_of
-returns c = refl

@@ -1,0 +1,56 @@
+// What the walk counts, and the three actions that change it. The counters and one buffer are lent.
+ghost use Rattle.std.specs.Prelude.{◌≡◌};
+ghost use Rattle.steps.specs.Counting.{emitted_of, labelled_of, listed, unmarked_at, marked_at};
+ghost use Rattle.steps.specs.Walked.{instr_of};
+
+use crate::labels;
+use crate::records::{Op, put_record};
+use instr::records::Record;
+use instr::tables;
+
+// What has been emitted: its virtual size, how many labels, how many records.
+#[derive(Clone, Copy, Debug, PartialEq, Eq)]
+pub struct Counters {
+    pub offset: u32,
+    pub labels: u32,
+    pub count: u32,
+}
+
+impl Counters {
+    // Before the first action.
+    pub fn new() -> Self
+        ensures { result ≡ record { offset = 0; labels = 0; count = 0 } }
+    {
+        Counters {
+            offset: 0,
+            labels: 0,
+            count: 0,
+        }
+    }
+
+    // The next record. Neither sum wraps in the walk of a unit: after every action both are the definition's, far below 2^32 (assemble's
+    // unwrapped).
+    #[inline(always)]
+    pub fn emit(&mut self, op: Op, out: &mut [u8])
+        ensures { (self.new ≡ emitted_of self.old (instr_of op)) × (out.new ≡ listed self.old (instr_of op) out.old) }
+    {
+        put_record(out, self.count, Record::from(op));
+        self.offset = self.offset.wrapping_add(u32::from(tables::size_of(op.tag)));
+        self.count = self.count.wrapping_add(1);
+    }
+
+    // One label more, of any counters: `new_label` decides first whether there may be one. Below its limit the sum does not wrap.
+    pub fn add_label(&mut self, marks: &mut [u32])
+        ensures { (self.new ≡ labelled_of self.old) × (marks.new ≡ unmarked_at self.old marks.old) }
+    {
+        labels::put_mark(marks, self.labels as usize, labels::UNMARKED);
+        self.labels = self.labels.wrapping_add(1);
+    }
+
+    // The label lands at the offset.
+    pub fn mark_label(&self, label: usize, marks: &mut [u32])
+        ensures { marks.new ≡ marked_at self.now label marks.old }
+    {
+        labels::put_made(marks, label, self.offset, self.labels);
+    }
+}
