@@ -16,6 +16,8 @@ use Rattle.definitions.specs.Tree.{Callee, Expr, Exprs, nop, const, null, new_in
 use Rattle.definitions.specs.Read.{Parser, ◌>>=◌, give, span, head, ended, filling, run, pick, callee, arguments, as_nop, as_null, as_new_instance, as_construct, as_assign, as_field, as_index, as_conditional, as_dyn_cast, as_local, as_intrinsic, as_free_call, as_static_call, as_instance_call, as_closure_call, expr_kinds, expr_body, parse_expr}
 use Rattle.definitions.specs.Code.{Code}
 use Rattle.definitions.specs.Lower.{weak_to_ref, lower_field, emit_invoke, emit_call, require_flags, lower_expr, lower_exprs}
+use Rattle.ir.specs.Kinds.{expr_code}
+use Rattle.ir.specs.declared.expr.ExprKind.{ExprKind}
 use Rattle.laws.proofs.Trees.{length_exprs_law}
 use Rattle.steps.proofs.RunLaws.{marks_long}
 use Rattle.steps.specs.Walked.{marks_from, callee_at}
@@ -132,6 +134,9 @@ call_found {d} {s} {stop} {p} {a} {n} h f q e i m u o x y (inr z) =
     }))
 
 -- 4. Kinds
+
+pub code_is : {kind k : ExprKind} {code : ℕ} → expr_code kind ≡ code → kind ≡ k → code ≡ expr_code k
+code_is e h = sym e ∙ ap expr_code h
 
 -- the kind by its number
 kind_is : (d : ℕ) (s : List ℕ) (stop at n : ℕ) {e : Expr} {r : ℕ} → get_or s (at + 4) 0 ≡ n → expr_body s (parse_expr d s) n at stop (at + 5) ≡ ok e r → expr_body s (parse_expr d s) (get_or s (at + 4) 0) at stop (at + 5) ≡ ok e r

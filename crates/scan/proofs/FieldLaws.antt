@@ -1,14 +1,14 @@
 -- Fields that are there and in range are read. Assumes nothing.
 use Prim.Native.Nat.{ℕ, zero, suc, ◌+◌, ◌≤◌, ◌<◌}
 use mathlib.Core.Path.{◌≡◌, refl, sym, ap, ◌∙◌}
-use mathlib.Core.Bool.{Bool, true, false, not}
+use mathlib.Core.Bool.{Bool, true, false}
 use mathlib.Core.List.{List, []}
 use mathlib.Core.Logic.{inl, inr}
 use native.Mathlib.Omega.{arith}
 use native.Mathlib.Decide.{dec_lt}
 use lib.Dec.{eqb}
 use lib.ListN.{get_or}
-use borrow.Author.Tests.{le-leb, lt-ltb, eq-eqb, eqb-true, not-false}
+use borrow.Author.Tests.{le-leb, lt-ltb, eq-eqb, eqb-true}
 use Rattle.definitions.specs.Answer.{Answer, ok, bind}
 use Rattle.definitions.specs.Bytes.{number}
 use Rattle.definitions.specs.Tag.{const_widths}
@@ -97,11 +97,3 @@ const_at s stop at l m h = record {
       (step _ _ (payload_in s site stop (get_or s at 0) (at + 1) (at + (1 + get_or const_widths (get_or s at 0) 0)) (omega arith) h m) refl);
   place = h;
 }
-
--- the bytes whose value is not four bytes wide
-unfoldable pub odd_width : ℕ → Bool
-odd_width b = not (eqb (get_or const_widths b 0) 4)
-
-pub width_other : (byte : ℕ) → odd_width byte ≡ false → 4 ≡ get_or const_widths byte 0
-unfolding odd_width
-width_other byte e = sym (eqb-true _ _ (not-false _ e))

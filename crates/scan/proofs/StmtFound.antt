@@ -13,11 +13,17 @@ use Rattle.definitions.specs.Tree.{Default, block, while, branches, switch, init
 use Rattle.definitions.specs.Read.{◌>>=◌, give, run, block_if, parse_expr, parse_stmt}
 use Rattle.definitions.specs.Lower.{BlockSpan, lower_stmt, mid_default}
 use Rattle.laws.proofs.Trees.{length_exprs_law, length_cases_law}
+use Rattle.ir.specs.Kinds.{stmt_code}
+use Rattle.ir.specs.declared.stmt.StmtKind.{StmtKind}
 use Rattle.scan.specs.Scanned.{Allows, default_count, groups_of, is_mid, within, ExprAt, RunAt, BlockAt, StmtAt, ArmsAt, CasesAt}
 use Rattle.scan.proofs.TameLaws.{tame_more}
 use Rattle.scan.proofs.FieldLaws.{step}
 use Rattle.scan.proofs.StmtLaws.{array_tame, DefaultTame, defaults, switch_tame, while_tame, branches_tame, break_tame, continue_tame, nothing_tame, returned, return_tame, default_tame}
 use Rattle.scan.proofs.StmtReads.{block_in, while_in, branches_in, branches_with, switch_in, array_in, default_in, break_in, continue_in, nothing_in, return_in}
+
+-- a kind by its number
+pub stmt_is : {kind k : StmtKind} {code : ℕ} → stmt_code kind ≡ code → kind ≡ k → code ≡ stmt_code k
+stmt_is e h = sym e ∙ ap stmt_code h
 
 -- what is allowed in more may be allowed in less
 fewer : {span : BlockSpan} {r n : ℕ} → Allows span r n → Allows span r 0

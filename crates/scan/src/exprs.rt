@@ -1,11 +1,11 @@
 // Expressions and runs of them: one cycle of calls, in which the depth that is left falls. A position of 0 is handed on: nothing was found.
 ghost use Rattle.std.specs.Prelude.{◌≡◌, true, ◌+◌, ◌≤◌, ◌<◌, length, get_or};
+ghost use Rattle.ir.specs.Kinds.{expr_code};
 ghost use Rattle.scan.specs.Scanned.{Or0, ExprAt, BodyAt, RunAt, ArgsAt, CallAt, BeforeArg};
 
 use super::fields::{after_const, after_fields, marks_good, node_end, pay, span_end};
-use instr::numbers::wide;
 use ir::args::is_prvalue_ref;
-use ir::expr;
+use ir::expr::ExprKind;
 use steps::tags::typed;
 
 // The most items of a run, where no rule limits them: more than a unit has bytes.
@@ -33,27 +33,29 @@ pub(crate) fn scan_expr(
     }
     let below = depth - 1;
     let body = at + 5;
-    let kind = s[at + 4];
+    let Ok(kind) = ExprKind::try_from(s[at + 4]) else {
+        return 0;
+    };
     let last = match kind {
-        expr::NOP => body,
-        expr::CONST => after_const(s, body, stop),
-        expr::NULL => after_fields(s, body, stop, 1, 0, 2),
-        expr::NEW_INSTANCE => body + 4,
-        expr::LOCAL => after_fields(s, body, stop, 5, 0, 4),
-        expr::ASSIGN => {
+        ExprKind::Nop => body,
+        ExprKind::Const => after_const(s, body, stop),
+        ExprKind::Null => after_fields(s, body, stop, 1, 0, 2),
+        ExprKind::NewInstance => body + 4,
+        ExprKind::Local => after_fields(s, body, stop, 5, 0, 4),
+        ExprKind::Assign => {
             let a = scan_expr(s, body, stop, below, records, labels);
             scan_expr(s, a, stop, below, records, labels)
         }
-        expr::INDEX => {
+        ExprKind::Index => {
             let a = after_fields(s, body, stop, 5, 0, 2);
             let b = scan_expr(s, a, stop, below, records, labels);
             scan_expr(s, b, stop, below, records, labels)
         }
-        expr::DYN_CAST => {
+        ExprKind::DynCast => {
             let a = after_fields(s, body, stop, 5, 4, 2);
             scan_expr(s, a, stop, below, records, labels)
         }
-        _ => late_expr(s, at, stop, below, records, labels),
+        _ => late_expr(kind, s, at, stop, below, records, labels),
     };
     if last == stop {
         return stop;
@@ -64,6 +66,7 @@ pub(crate) fn scan_expr(
 // The kinds that make labels or hold a run.
 #[cycle(exprs)]
 fn late_expr(
+    kind: ExprKind,
     s: &[u8],
     at: usize,
     stop: usize,
@@ -71,14 +74,13 @@ fn late_expr(
     records: &mut usize,
     labels: &mut usize,
 ) -> usize
-    requires { (at + 5 ≤ stop) × (stop ≤ length s.now) }
+    requires { (at + 5 ≤ stop) × (stop ≤ length s.now) × (expr_code kind ≡ get_or s.now (at + 4) 0) }
     ensures { Or0 result (BodyAt depth s.now stop at result records.old labels.old records.new labels.new) }
 {
-    let kind = s[at + 4];
     let body = at + 5;
     match kind {
-        expr::FIELD => scan_field(s, at, stop, depth, records, labels),
-        expr::CONDITIONAL => {
+        ExprKind::Field => scan_field(s, at, stop, depth, records, labels),
+        ExprKind::Conditional => {
             if !pay(labels, 2) {
                 return 0;
             }
@@ -86,17 +88,17 @@ fn late_expr(
             let b = scan_expr(s, a, stop, depth, records, labels);
             scan_expr(s, b, stop, depth, records, labels)
         }
-        expr::CONSTRUCT => scan_construct(s, at, stop, depth, records, labels),
-        expr::INTRINSIC_CALL => scan_intrinsic(s, at, stop, depth, records, labels),
-        expr::FREE_CALL => scan_call(s, body, stop, depth, records, labels),
-        expr::STATIC_CALL => {
+        ExprKind::Construct => scan_construct(s, at, stop, depth, records, labels),
+        ExprKind::IntrinsicCall => scan_intrinsic(s, at, stop, depth, records, labels),
+        ExprKind::FreeCall => scan_call(s, body, stop, depth, records, labels),
+        ExprKind::StaticCall => {
             if !pay(labels, 1) {
                 return 0;
             }
             scan_call(s, body, stop, depth, records, labels)
         }
-        expr::INSTANCE_CALL => scan_instance(s, at, stop, depth, records, labels),
-        expr::CLOSURE_CALL => scan_closure(s, at, stop, depth, records, labels),
+        ExprKind::InstanceCall => scan_instance(s, at, stop, depth, records, labels),
+        ExprKind::ClosureCall => scan_closure(s, at, stop, depth, records, labels),
         _ => 0,
     }
 }
@@ -118,7 +120,7 @@ fn scan_field(
     if a == 0 {
         return 0;
     }
-    let form = wide(s[at + 5]);
+    let form = usize::from(s[at + 5]);
     if 0 < form {
         if !pay(records, form) {
             return 0;
@@ -167,7 +169,11 @@ fn scan_intrinsic(
     if a == 0 {
         return 0;
     }
-    if !typed(wide(s[at + 5]), wide(s[at + 6]), wide(s[at + 7])) {
+    if !typed(
+        usize::from(s[at + 5]),
+        usize::from(s[at + 6]),
+        usize::from(s[at + 7]),
+    ) {
         return 0;
     }
     let mut items = ITEMS;
@@ -191,7 +197,7 @@ fn scan_instance(
     if a == 0 {
         return 0;
     }
-    if !pay(records, 1 + wide(s[at + 5])) {
+    if !pay(records, 1 + usize::from(s[at + 5])) {
         return 0;
     }
     if !pay(labels, 1) {
@@ -283,7 +289,7 @@ fn scan_call(
     if a == 0 {
         return 0;
     }
-    let n = wide(s[at + 11]);
+    let n = usize::from(s[at + 11]);
     if stop - a < n {
         return 0;
     }
@@ -358,7 +364,7 @@ fn before_arg(
             return false;
         }
     }
-    let short = wide(s[params + k]);
+    let short = usize::from(s[params + k]);
     if !pay(records, short) {
         return false;
     }

@@ -5,7 +5,8 @@ ghost use Rattle.definitions.specs.Tag.{const_widths};
 ghost use Rattle.definitions.specs.Read.{span, head};
 ghost use Rattle.scan.specs.Scanned.{Or0, ConstAt, all_marks};
 
-use instr::numbers::{u32_inside, wide};
+use instr::numbers::number_inside;
+use ir::expr::const_width;
 
 // Takes k from what is left, where there is so much.
 pub(crate) fn pay(left: &mut usize, k: usize) -> bool
@@ -26,7 +27,7 @@ pub(crate) fn span_end(s: &[u8], at: usize, end: usize) -> usize
     if end - at < 4 {
         return 0;
     }
-    let n = u32_inside(s, at);
+    let n = number_inside::<4>(s, at) as usize;
     if end - at - 4 < n {
         return 0;
     }
@@ -65,25 +66,6 @@ pub(crate) fn after_fields(s: &[u8], at: usize, stop: usize, w: usize, k: usize,
     0
 }
 
-// The bytes of a constant's value, by its byte.
-fn width_of(byte: u8) -> usize
-    requires { byte < 16 }
-    ensures { (result ≡ get_or const_widths byte 0) × (result ≤ 8) }
-{
-    match byte {
-        4 => 8,
-        6 => 8,
-        7 => 1,
-        8 => 2,
-        10 => 8,
-        11 => 1,
-        12 => 2,
-        14 => 8,
-        15 => 1,
-        _ => 4,
-    }
-}
-
 // After a constant: its byte, and a mark for Bool, else a value of its width.
 pub(crate) fn after_const(s: &[u8], at: usize, stop: usize) -> usize
     requires { (at ≤ stop) × (stop ≤ length s.now) }
@@ -101,11 +83,11 @@ pub(crate) fn after_const(s: &[u8], at: usize, stop: usize) -> usize
             return 0;
         }
     }
-    let w = 1 + width_of(byte);
-    if stop - at < w {
+    let w = const_width(usize::from(byte));
+    if stop - at - 1 < w {
         return 0;
     }
-    at + w
+    at + 1 + w
 }
 
 // Whether n bytes are marks.
@@ -113,12 +95,10 @@ pub(crate) fn marks_good(s: &[u8], at: usize, n: usize) -> bool
     requires { at + n ≤ length s.now }
     ensures { result ≡ true → all_marks s.now at n }
 {
-    let mut k = 0;
-    while k < n {
+    for k in 0..n {
         if 1 < s[at + k] {
             return false;
         }
-        k += 1;
     }
     true
 }

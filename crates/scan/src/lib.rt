@@ -10,7 +10,6 @@ mod exprs;
 mod fields;
 mod stmts;
 
-use instr::numbers::wide;
 use ir::DEPTH_LIMIT;
 use stmts::scan_block;
 
@@ -24,5 +23,14 @@ pub fn fits(unit: &[u8], records: usize, labels: usize) -> bool
     let end = unit.len();
     let mut k = records;
     let mut l = labels;
-    scan_block(unit, 6, end, DEPTH_LIMIT, wide(unit[5]), 0, &mut k, &mut l) == end
+    scan_block(
+        unit,
+        6,
+        end,
+        DEPTH_LIMIT,
+        usize::from(unit[5]),
+        0,
+        &mut k,
+        &mut l,
+    ) == end
 }

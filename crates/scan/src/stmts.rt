@@ -1,12 +1,13 @@
 // Statements and blocks: one cycle of calls, in which the depth that is left falls. `inside` is 2 in a loop, 1 in a switch that is in no
 // loop, else 0: what break and continue ask.
 ghost use Rattle.std.specs.Prelude.{◌≡◌, true, cond, ℕ, ◌+◌, ◌≤◌, ◌<◌, ◌^◌, length, get_or};
+ghost use Rattle.ir.specs.Kinds.{stmt_code};
 ghost use Rattle.scan.specs.Scanned.{Or0, BlockAt, StmtAt, ArmsAt, CasesAt, default_count, within};
 
 use super::exprs::{ITEMS, scan_expr, scan_run};
 use super::fields::{after_fields, node_end, pay, span_end};
-use instr::numbers::{u32_inside, wide};
-use ir::stmt;
+use instr::numbers::number_inside;
+use ir::stmt::StmtKind;
 
 // A block: its length and statements that fill it.
 #[cycle(stmts)]
@@ -37,10 +38,12 @@ pub(crate) fn scan_block(
             return 0;
         }
         let below = depth - 1;
-        let to = if s[next + 4] == stmt::EXPR {
-            scan_expr(s, next + 5, last, below, records, labels)
-        } else {
-            scan_stmt(s, next, last, below, returns, inside, records, labels)
+        let Ok(kind) = StmtKind::try_from(s[next + 4]) else {
+            return 0;
+        };
+        let to = match kind {
+            StmtKind::Expr => scan_expr(s, next + 5, last, below, records, labels),
+            _ => scan_stmt(kind, s, next, last, below, returns, inside, records, labels),
         };
         if to != last {
             return 0;
@@ -53,6 +56,7 @@ pub(crate) fn scan_block(
 // What the statement's kind asks, of any kind but Expr.
 #[cycle(stmts)]
 fn scan_stmt(
+    kind: StmtKind,
     s: &[u8],
     at: usize,
     stop: usize,
@@ -62,22 +66,21 @@ fn scan_stmt(
     records: &mut usize,
     labels: &mut usize,
 ) -> usize
-    requires { (at + 5 ≤ stop) × (stop ≤ length s.now) }
+    requires { (at + 5 ≤ stop) × (stop ≤ length s.now) × (stmt_code kind ≡ get_or s.now (at + 4) 0) }
     ensures { Or0 result (StmtAt depth s.now stop at result returns inside records.old labels.old records.new labels.new) }
 {
     let body = at + 5;
-    let kind = s[at + 4];
     match kind {
-        stmt::BLOCK => scan_block(s, body, stop, depth, returns, inside, records, labels),
-        stmt::WHILE => scan_while(s, at, stop, depth, returns, records, labels),
-        stmt::BRANCHES => scan_branches(s, at, stop, depth, returns, inside, records, labels),
-        stmt::SWITCH => scan_switch(s, at, stop, depth, returns, inside, records, labels),
-        stmt::INIT_ARRAY => scan_array(s, at, stop, depth, records, labels),
-        stmt::INIT_DEFAULT => scan_default(s, at, stop, records),
-        stmt::BREAK => scan_jump(body, 0 < inside, records),
-        stmt::CONTINUE => scan_jump(body, 1 < inside, records),
-        stmt::RETURN => scan_return(s, at, stop, depth, returns, records, labels),
-        _ => 0,
+        StmtKind::Block => scan_block(s, body, stop, depth, returns, inside, records, labels),
+        StmtKind::While => scan_while(s, at, stop, depth, returns, records, labels),
+        StmtKind::Branches => scan_branches(s, at, stop, depth, returns, inside, records, labels),
+        StmtKind::Switch => scan_switch(s, at, stop, depth, returns, inside, records, labels),
+        StmtKind::InitArray => scan_array(s, at, stop, depth, records, labels),
+        StmtKind::InitDefault => scan_default(s, at, stop, records),
+        StmtKind::Break => scan_jump(body, 0 < inside, records),
+        StmtKind::Continue => scan_jump(body, 1 < inside, records),
+        StmtKind::Return => scan_return(s, at, stop, depth, returns, records, labels),
+        StmtKind::Expr => 0,
     }
 }
 
@@ -317,7 +320,7 @@ fn scan_switch(
     if b == 0 {
         return 0;
     }
-    let mark = wide(s[a + 4]);
+    let mark = usize::from(s[a + 4]);
     let within = in_switch(inside);
     let c = scan_cases(
         s,
@@ -326,7 +329,7 @@ fn scan_switch(
         depth,
         returns,
         within,
-        u32_inside(s, a),
+        number_inside::<4>(s, a) as usize,
         mark,
         records,
         labels,

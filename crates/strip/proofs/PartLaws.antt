@@ -2,8 +2,9 @@
 use Prim.Native.Nat.{ℕ, zero, suc, ◌+◌, ◌-◌, ◌≤◌, ◌<◌}
 use mathlib.Core.Path.{◌≡◌, refl, sym, ap, subst, ◌∙◌}
 use mathlib.Core.Bool.{Bool, true, false, ◌&&◌}
+use Rattle.std.specs.Prelude.{Option, Some, None}
 use mathlib.Core.List.{List, [], ◌∷◌, ◌++◌}
-use mathlib.Core.Logic.{◌⊎◌, inl, inr}
+use mathlib.Core.Logic.{inl, inr}
 use mathlib.Core.Option.{none}
 use native.Mathlib.Omega.{arith}
 use native.Mathlib.Numerals.{add-one}
@@ -11,19 +12,18 @@ use lib.Dec.{leb, eqb}
 use lib.ListN.{length, get_or, get_elem?, take, drop, drop_of_length-le}
 use lib.Seq.{drop-cons}
 use borrow.Author.Tests.{eqb-true}
-use Rattle.laws.proofs.Arms.{Nones, past}
+use Rattle.ir.specs.Kinds.{IsUnlisted}
 use Rattle.laws.proofs.Inversion.{impossible}
 use Rattle.definitions.specs.Strip as definition
-use Rattle.definitions.specs.Strip.{Strip, only, nothing, ◌and◌, keep, keep_below, strip_run, strip_parts, strip_expr, strip_stmt, parts_of}
-use Rattle.strip.specs.Parts.{part_is, listed, parts_for, item_of}
+use Rattle.definitions.specs.Strip.{Strip, only, nothing, ◌and◌, keep, keep_below, strip_run, strip_parts, strip_expr, strip_stmt, parts_of, expr_parts, stmt_parts}
+use Rattle.strip.specs.Parts.{part_is, listed, item_of, of_class}
 use Rattle.strip.specs.Passing.{fitting, pass_if, below_of, handed, closed_args, put_if, whole, Copied, Did, Within, Parted, parts_in, KeptBy, Ready, params_step, constant_step}
+use Rattle.ir.specs.declared.Class.{Class}
 use Rattle.ir.specs.declared.Class.TheVariants.{Statement, Expression}
 use Rattle.ir.specs.declared.Item.{Item}
 use Rattle.ir.specs.declared.Item.TheVariants.{Node, Arm}
-use Rattle.strip.specs.declared.Pass.{Pass}
-use Rattle.strip.specs.declared.Pass.TheVariants.{At, Stopped}
 use Rattle.strip.specs.declared.Part.{Part}
-use Rattle.strip.specs.declared.Part.TheVariants.{Free, Kept, Small, Constant, Params, Value, Run, Arguments, ValueIf, BlockIf, Nothing}
+use Rattle.strip.specs.declared.Part.TheVariants.{Free, Kept, Small, Constant, Params, Value, Run, Arguments, ValueIf, BlockIf}
 use Rattle.strip.proofs.Laws.{standing, guards, keeps, keeps_below, blanks, checking}
 
 -- 1. Kinds
@@ -33,26 +33,26 @@ past_all [] k h = refl
 past_all (x ∷ all) zero h = impossible (omega arith)
 past_all (x ∷ all) (suc k) h = past_all all k (omega arith)
 
--- what is no kind has the one part that stops
-pub no_kind : (all : List (List definition.Part)) (kind : ℕ) → (kind ≡ 0) ⊎ (length all < kind) → definition.small 0 ∷ [] ≡ parts_for (parts_of all kind)
+-- what is no kind has no parts
+unlisted : (all : List (List definition.Part)) (kind : ℕ) → IsUnlisted (length all) kind → none ≡ parts_of all kind
 unfolding parts_of
-no_kind all zero h = refl
-no_kind all (suc k) (inl h) = impossible (omega arith)
-no_kind all (suc k) (inr h) = rw (past_all all k (omega arith))
+unlisted all zero h = refl
+unlisted all (suc k) (inl h) = impossible (omega arith)
+unlisted all (suc k) (inr h) = sym (past_all all k (omega arith))
 
--- none of the first n kinds
-pub late : (n kind : ℕ) → Nones 0 n kind → (kind ≡ 0) ⊎ (n < kind)
-late n zero h = inl refl
-late n (suc k) h = inr (let l = past 0 n (suc k) h (omega arith) in omega arith)
+pub no_expr : (class : Class) (kind : ℕ) → class ≡ Expression → IsUnlisted 16 kind → none ≡ parts_of (of_class class) kind
+unfolding expr_parts
+no_expr Statement kind e h = impossible (cc)
+no_expr Expression kind e h = unlisted expr_parts kind h
 
--- nor of m more
-pub later : (n m kind : ℕ) → (kind ≡ 0) ⊎ (n < kind) → Nones n m kind → (kind ≡ 0) ⊎ (n + m < kind)
-later n m kind (inl h) k = inl h
-later n m kind (inr h) k = inr (past n m kind k h)
+pub no_stmt : (class : Class) (kind : ℕ) → class ≡ Statement → IsUnlisted 10 kind → none ≡ parts_of (of_class class) kind
+unfolding stmt_parts
+no_stmt Statement kind e h = unlisted stmt_parts kind h
+no_stmt Expression kind e h = impossible (cc)
 
 -- 2. Parts
 
-module _ (depth blocks : ℕ) (s : List ℕ) (end : ℕ) (part : Part) (at n : ℕ) (o : List ℕ) (r : Pass) (o' : List ℕ) where
+module _ (depth blocks : ℕ) (s : List ℕ) (end : ℕ) (part : Part) (at n : ℕ) (o : List ℕ) (r : Option (ℕ × ℕ)) (o' : List ℕ) where
   -- a step that is the part's
   abbrev Is : (step : (ℕ → Strip) → Strip) → Part → Type 0
   Is step p = (ps : List definition.Part) (rest : ℕ → List ℕ) → step (parts_in depth blocks s end ps) rest at ≡ parts_in depth blocks s end (part_is p ++ ps) n rest at
@@ -72,9 +72,9 @@ module _ (depth blocks : ℕ) (s : List ℕ) (end : ℕ) (part : Part) (at n : �
   unfolding strip_parts
   a_kept w e k c f = parted _ (Kept w) e (λ ps rest. refl) (subst (λ (o' : List ℕ). Did s at o (λ next. keep s end w (λ x. next n)) r o') (sym k) (keeps s o at n end w r c f))
 
-  pub a_small : (bound : ℕ) (r₀ : Pass) → part ≡ Small bound → o' ≡ o → Copied s at o → r₀ ≡ fitting at 1 end (get_or s at 0) → r ≡ below_of bound r₀ → Does
+  pub a_small : (bound : ℕ) → part ≡ Small bound → o' ≡ o → Copied s at o → r ≡ below_of bound (fitting at 1 end (get_or s at 0)) → Does
   unfolding strip_parts
-  a_small bound r₀ e k c f g = parted (keep_below s end bound) (Small bound) e (λ ps rest. refl) (subst (λ (o' : List ℕ). Did s at o (keep_below s end bound) r o') (sym k) (keeps_below s o at end bound r₀ r c f g))
+  a_small bound e k c g = parted (keep_below s end bound) (Small bound) e (λ ps rest. refl) (subst (λ (o' : List ℕ). Did s at o (keep_below s end bound) r o') (sym k) (keeps_below s o at end bound r c g))
 
   pub a_constant : part ≡ Constant → Did s at o (constant_step s end n) r o' → Does
   unfolding strip_parts
@@ -94,24 +94,21 @@ module _ (depth blocks : ℕ) (s : List ℕ) (end : ℕ) (part : Part) (at n : �
   run_is (Node Expression) ps rest = refl
   run_is Arm ps rest = refl
 
-  pub a_run : (item : Item) (r₀ : Pass) → part ≡ Run item → Did s at o (strip_run s end (item_of item depth blocks s)) r₀ o' → r ≡ handed n r₀ → Does
+  pub a_run : (item : Item) (r₀ : Option (ℕ × ℕ)) → part ≡ Run item → Did s at o (strip_run s end (item_of item depth blocks s)) r₀ o' → r ≡ handed n r₀ → Does
   a_run item r₀ e d h = parted _ (Run item) e (run_is item) (guards s o o' at (λ a k. true) (λ k. n) (strip_run s end (item_of item depth blocks s)) r₀ r d h)
 
-  pub an_arguments : (r₀ : Pass) → part ≡ Arguments → Did s at o (strip_run s end (strip_expr depth s)) r₀ o' → r ≡ closed_args end n r₀ → Does
+  pub an_arguments : (r₀ : Option (ℕ × ℕ)) → part ≡ Arguments → Did s at o (strip_run s end (strip_expr depth s)) r₀ o' → r ≡ closed_args end n r₀ → Does
   unfolding strip_parts
   an_arguments r₀ e d h =
       parted _ Arguments e (λ ps rest. refl) (guards s o o' at (λ a k. eqb a end && leb k n) (λ k. n) (strip_run s end (strip_expr depth s)) r₀ r d h)
 
   -- nothing is there
-  stands : o' ≡ o → r ≡ At at n → Copied s at o → Did s at o (λ next. next n) r o'
-  stands k h c = subst (λ (o' : List ℕ). Did s at o (λ next. next n) r o') (sym k) (subst (λ (r : Pass). Did s at o (λ next. next n) r o) (sym h) (standing s o at n c))
+  stands : o' ≡ o → r ≡ Some (at, n) → Copied s at o → Did s at o (λ next. next n) r o'
+  stands k h c = subst (λ (o' : List ℕ). Did s at o (λ next. next n) r o') (sym k) (subst (λ (r : Option (ℕ × ℕ)). Did s at o (λ next. next n) r o) (sym h) (standing s o at n c))
 
-  pub no_part : part ≡ Nothing → o' ≡ o → r ≡ At at n → Copied s at o → Does
-  no_part e k h c = parted (λ next. next n) Nothing e (λ ps rest. refl) (stands k h c)
-
-  none_is : n ≡ 0 → Is (λ next. next n) ValueIf × Is (λ next. next n) BlockIf
+  nothing_is : n ≡ 0 → Is (λ next. next n) ValueIf × Is (λ next. next n) BlockIf
   unfolding strip_parts
-  none_is h = rw h ((λ ps rest. refl), (λ ps rest. refl))
+  nothing_is h = rw h ((λ ps rest. refl), (λ ps rest. refl))
 
   value_is : (m : ℕ) → n ≡ suc m → Is (λ next. strip_expr depth s end and next n) ValueIf
   unfolding strip_parts
@@ -121,16 +118,16 @@ module _ (depth blocks : ℕ) (s : List ℕ) (end : ℕ) (part : Part) (at n : �
   unfolding strip_parts
   block_is m h = rw h (λ ps rest. refl)
 
-  pub no_value : part ≡ ValueIf → n ≡ 0 → o' ≡ o → r ≡ At at n → Copied s at o → Does
-  no_value e z k h c = parted (λ next. next n) ValueIf e (none_is z).0 (stands k h c)
+  pub no_value : part ≡ ValueIf → n ≡ 0 → o' ≡ o → r ≡ Some (at, n) → Copied s at o → Does
+  no_value e z k h c = parted (λ next. next n) ValueIf e (nothing_is z).0 (stands k h c)
 
   pub some_value : part ≡ ValueIf → (n ≡ 0 → ⊥) → Did s at o (λ next. strip_expr depth s end and next n) r o' → Does
   some_value e z d = parted _ ValueIf e (value_is (n - 1) (omega arith)) d
 
-  pub no_block : part ≡ BlockIf → n ≡ 0 → o' ≡ o → r ≡ At at n → Copied s at o → Does
-  no_block e z k h c = parted (λ next. next n) BlockIf e (none_is z).1 (stands k h c)
+  pub no_block : part ≡ BlockIf → n ≡ 0 → o' ≡ o → r ≡ Some (at, n) → Copied s at o → Does
+  no_block e z k h c = parted (λ next. next n) BlockIf e (nothing_is z).1 (stands k h c)
 
-  pub some_block : (r₀ : Pass) → part ≡ BlockIf → (n ≡ 0 → ⊥) → Did s at o (strip_run s end (strip_stmt blocks s)) r₀ o' → r ≡ handed n r₀ → Does
+  pub some_block : (r₀ : Option (ℕ × ℕ)) → part ≡ BlockIf → (n ≡ 0 → ⊥) → Did s at o (strip_run s end (strip_stmt blocks s)) r₀ o' → r ≡ handed n r₀ → Does
   some_block r₀ e z d h = parted _ BlockIf e (block_is (n - 1) (omega arith)) (guards s o o' at (λ a k. true) (λ k. n) (strip_run s end (strip_stmt blocks s)) r₀ r d h)
 
 -- 3. One part after another
@@ -147,24 +144,24 @@ module _ (depth blocks : ℕ) (s : List ℕ) (end : ℕ) (parts : List Part) (at
   abbrev parts_step : (ℕ → Strip) → Strip
   parts_step next = parts_in depth blocks s end (listed parts) 0 and next n
 
-  turn : (out : List ℕ) (next last i : ℕ) (d₀ p : Part) (r : Pass) (out' : List ℕ) → i < length parts → p ≡ get_or parts i d₀ → ThroughTo out next last i → Parted depth blocks s end p next last out r out'
+  turn : (out : List ℕ) (next last i : ℕ) (d₀ p : Part) (r : Option (ℕ × ℕ)) (out' : List ℕ) → i < length parts → p ≡ get_or parts i d₀ → ThroughTo out next last i → Parted depth blocks s end p next last out r out'
       → (rest : ℕ → List ℕ) → whole r out' (λ m. parts_in depth blocks s end (listed (drop (suc i) parts)) m rest) ≡ take at o ++ parts_in depth blocks s end (listed parts) 0 rest at
   turn out next last i d₀ p r out' l e h d rest =
       let j : drop i parts ≡ p ∷ drop (suc i) parts = rw e (drop-cons parts i d₀ l) in
       d.same (listed (drop (suc i) parts)) rest
       ∙ ap (λ (ps : List Part). take next out ++ parts_in depth blocks s end (listed ps) last rest next) (sym j) ∙ h.same rest
 
-  pub through_next : (out : List ℕ) (next last i : ℕ) (d₀ p : Part) (a m : ℕ) (r : Pass) (out' : List ℕ) → i < length parts → p ≡ get_or parts i d₀ → ThroughTo out next last i
-      → Parted depth blocks s end p next last out r out' → r ≡ At a m → ThroughTo out' a m (i + 1)
+  pub through_next : (out : List ℕ) (next last i : ℕ) (d₀ p : Part) (a m : ℕ) (r : Option (ℕ × ℕ)) (out' : List ℕ) → i < length parts → p ≡ get_or parts i d₀ → ThroughTo out next last i
+      → Parted depth blocks s end p next last out r out' → r ≡ Some (a, m) → ThroughTo out' a m (i + 1)
   through_next out next last i d₀ p a m r out' l e h d k =
-      let d' : Parted depth blocks s end p next last out (At a m) out' = subst (λ (r : Pass). Parted depth blocks s end p next last out r out') k d in
-      rw (add-one i) (record { copied = d'.left; same = λ rest. turn out next last i d₀ p (At a m) out' l e h d' rest })
+      let d' : Parted depth blocks s end p next last out (Some (a, m)) out' = subst (λ (r : Option (ℕ × ℕ)). Parted depth blocks s end p next last out r out') k d in
+      rw (add-one i) (record { copied = d'.left; same = λ rest. turn out next last i d₀ p (Some (a, m)) out' l e h d' rest })
 
-  pub through_stopped : (out : List ℕ) (next last i : ℕ) (d₀ p : Part) (r : Pass) (out' : List ℕ) → i < length parts → p ≡ get_or parts i d₀ → ThroughTo out next last i
-      → Parted depth blocks s end p next last out r out' → r ≡ Stopped → Did s at o parts_step Stopped out' × Within end end Stopped
+  pub through_stopped : (out : List ℕ) (next last i : ℕ) (d₀ p : Part) (r : Option (ℕ × ℕ)) (out' : List ℕ) → i < length parts → p ≡ get_or parts i d₀ → ThroughTo out next last i
+      → Parted depth blocks s end p next last out r out' → r ≡ None → Did s at o parts_step None out' × Within end end None
   through_stopped out next last i d₀ p r out' l e h d k =
-      let d' : Parted depth blocks s end p next last out Stopped out' = subst (λ (r : Pass). Parted depth blocks s end p next last out r out') k d in
-      (record { same = λ q rest. turn out next last i d₀ p Stopped out' l e h d' (q n rest); left = d'.left }, tt)
+      let d' : Parted depth blocks s end p next last out None out' = subst (λ (r : Option (ℕ × ℕ)). Parted depth blocks s end p next last out r out') k d in
+      (record { same = λ q rest. turn out next last i d₀ p None out' l e h d' (q n rest); left = d'.left }, tt)
 
   ended : (out : List ℕ) (next last i : ℕ) → length parts ≤ i → ThroughTo out next last i → (rest : ℕ → List ℕ) → take next out ++ only s (eqb next end) nothing rest next ≡ take at o ++ parts_in depth blocks s end (listed parts) 0 rest at
   unfolding strip_parts
@@ -172,15 +169,15 @@ module _ (depth blocks : ℕ) (s : List ℕ) (end : ℕ) (parts : List Part) (at
       let j : drop i parts ≡ [] = drop_of_length-le parts l in
       ap (λ (ps : List Part). take next out ++ parts_in depth blocks s end (listed ps) last rest next) (sym j) ∙ h.same rest
 
-  end_within : (next : ℕ) (b : Bool) → eqb next end ≡ b → Within end end (pass_if b (At next n))
+  end_within : (next : ℕ) (b : Bool) → eqb next end ≡ b → Within end end (pass_if b (Some (next, n)))
   end_within next true h = let e = eqb-true next end h in (omega (arith, e), omega (arith, e))
   end_within next false h = tt
 
-  pub through_end : (out : List ℕ) (next last i : ℕ) (r : Pass) → length parts ≤ i → ThroughTo out next last i → r ≡ pass_if (eqb next end) (At next n) → Did s at o parts_step r out × Within end end r
+  pub through_end : (out : List ℕ) (next last i : ℕ) (r : Option (ℕ × ℕ)) → length parts ≤ i → ThroughTo out next last i → r ≡ pass_if (eqb next end) (Some (next, n)) → Did s at o parts_step r out × Within end end r
   through_end out next last i r l h e =
       let d = checking s out next n (eqb next end) r (λ q rest. only s (eqb next end) (q n) rest) h.copied e (λ q rest. refl) in (
         record { same = λ q rest. d.same q rest ∙ ap (λ (x : List ℕ). take next out ++ x) (only_nothing (eqb next end) (q n) rest) ∙ ended out next last i l h (q n rest); left = d.left },
-        subst (λ (r : Pass). Within end end r) (sym e) (end_within next (eqb next end) refl),
+        subst (λ (r : Option (ℕ × ℕ)). Within end end r) (sym e) (end_within next (eqb next end) refl),
       )
     where
       only_nothing : (b : Bool) (p : Strip) (rest : ℕ → List ℕ) → only s b p rest next ≡ only s b nothing (p rest) next

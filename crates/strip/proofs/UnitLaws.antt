@@ -1,38 +1,22 @@
--- The unit: its copy, its one block, and the answer. Assumes nothing.
-use Prim.Native.Nat.{ℕ, ◌+◌, ◌-◌, ◌≤◌, ◌<◌}
+-- The unit: its one block, and the answer. Assumes nothing.
+use Prim.Native.Nat.{ℕ, ◌-◌, ◌≤◌, ◌<◌}
 use mathlib.Core.Path.{◌≡◌, refl, sym, ap, ◌∙◌}
 use mathlib.Core.Bool.{Bool, true, false}
+use Rattle.std.specs.Prelude.{Option, Some, None}
 use mathlib.Core.List.{List, [], ◌++◌, append-nil}
 use native.Mathlib.Omega.{arith}
-use native.Mathlib.Nat.{zero-add}
-use native.Mathlib.Numerals.{add-one}
 use lib.Dec.{eqb}
-use lib.ListN.{length, get_or, take, drop, set, drop_of_length-le}
-use lib.Seq.{take_all, take-length, paste, paste-suc}
+use lib.ListN.{length, take, drop}
+use lib.Seq.{take_all}
 use borrow.Author.Tests.{le-leb, lt-leb, eqb-true}
 use Rattle.definitions.specs.Answer.{checked}
 use Rattle.definitions.specs.Read.{front_good, depth_limit}
 use Rattle.definitions.specs.Stage.{over}
 use Rattle.definitions.specs.Strip.{only, nothing, strip_run, strip_parts, strip_expr, strip_stmt, strip, strip_into, stripped, unstripped, strip_to}
 use Rattle.strip.specs.Passing.{whole, Copied, Left, Did}
-use Rattle.strip.specs.declared.Pass.{Pass}
-use Rattle.strip.specs.declared.Pass.TheVariants.{At, Stopped}
 use Rattle.strip.proofs.Laws.{stays}
 
--- 1. The copy
-
-pub copy_next : (s o out : List ℕ) (k : ℕ) → out ≡ paste o 0 s k → k < length s → length o ≡ length s → set out k (get_or s k 0) ≡ paste o 0 s (k + 1)
-copy_next s o out k e h l =
-    let z : k ≡ 0 + k = omega arith in
-    rw (e, add-one k) (ap (λ (i : ℕ). set (paste o 0 s k) i (get_or s k 0)) z ∙ paste-suc o 0 s k 0 (omega (arith, l)) h)
-
-pub copy_end : (s o out : List ℕ) (k : ℕ) → out ≡ paste o 0 s k → k ≤ length s → length s ≤ k → length o ≡ length s → out ≡ s
-copy_end s o out k e h l j =
-    let n : k ≡ length s = omega arith in
-    let d : drop (length s) o ≡ [] = drop_of_length-le o {i = length s} (omega (arith, j)) in
-    e ∙ rw (n, take-length s, zero-add (length s), d) (append-nil s)
-
--- 2. The block
+-- 1. The block
 
 pub all_copied : (s o : List ℕ) (at : ℕ) → o ≡ s → Copied s at o
 all_copied s o at e = record { long = ap length e; same = ap (λ (x : List ℕ). drop at x) e }
@@ -42,11 +26,11 @@ closing s o at true h c = append-nil (take at o) ∙ take_all at o (let e = eqb-
 closing s o at false h c = stays s o at c
 
 -- wherever the block ends, the buffer is done
-done : (s o : List ℕ) (r : Pass) → Left s r o → whole r o (λ n at. only s (eqb at (length s)) nothing (λ a. []) at) ≡ o
-done s o (At at n) l = closing s o at (eqb at (length s)) refl l
-done s o Stopped l = refl
+done : (s o : List ℕ) (r : Option (ℕ × ℕ)) → Left s r o → whole r o (λ n at. only s (eqb at (length s)) nothing (λ a. []) at) ≡ o
+done s o (Some (at, n)) l = closing s o at (eqb at (length s)) refl l
+done s o None l = refl
 
-pub a_unit : (s o o' : List ℕ) (r : Pass) → o ≡ s → front_good s ≡ true → Did s 6 o (strip_run s (length s) (strip_stmt depth_limit s)) r o' → o' ≡ strip s
+pub a_unit : (s o o' : List ℕ) (r : Option (ℕ × ℕ)) → o ≡ s → front_good s ≡ true → Did s 6 o (strip_run s (length s) (strip_stmt depth_limit s)) r o' → o' ≡ strip s
 unfolding strip strip_parts
 a_unit s o o' r e g d =
     sym (done s o' r d.left) ∙ d.same (λ k. strip_parts s (strip_expr depth_limit s) (strip_stmt depth_limit s) (length s) [] 0) (λ at. [])
@@ -60,7 +44,7 @@ pub no_unit : (s o : List ℕ) → o ≡ s → front_good s ≡ false → o ≡ 
 unfolding strip
 no_unit s o e g = e ∙ rw (strip, g)
 
--- 3. The answer
+-- 2. The answer
 
 pub answer_20 : (s o : List ℕ) → length o < length s → unstripped 20 0 0 o ≡ strip_to (strip_into s (length o)) o
 unfolding strip_to strip_into checked

@@ -1,16 +1,17 @@
 -- A list of parts, and nodes and items by their class, in the words of the definitions.
-use Rattle.std.specs.Prelude.{ℕ, List, [], ◌∷◌, ◌++◌}
-use Rattle.std.proofs.Math.Option.{Option, none, some}
+use Rattle.std.specs.Prelude.{ℕ, List, [], ◌∷◌, ◌++◌, Option, Some, None}
+use Rattle.std.proofs.Math.Option as math
+use Rattle.std.proofs.Math.Option.{none, some}
 use Rattle.definitions.specs.Strip as definition
-use Rattle.definitions.specs.Strip.{Strip, nothing, ◌and◌, strip_run, strip_expr, strip_stmt}
+use Rattle.definitions.specs.Strip.{Strip, nothing, ◌and◌, strip_run, strip_expr, strip_stmt, expr_parts, stmt_parts}
 use Rattle.ir.specs.declared.Class.{Class}
 use Rattle.ir.specs.declared.Class.TheVariants.{Statement, Expression}
 use Rattle.ir.specs.declared.Item.{Item}
 use Rattle.ir.specs.declared.Item.TheVariants.{Node, Arm}
 use Rattle.strip.specs.declared.Part.{Part}
-use Rattle.strip.specs.declared.Part.TheVariants.{Free, Kept, Small, Constant, Params, Value, Run, Arguments, ValueIf, BlockIf, Nothing}
+use Rattle.strip.specs.declared.Part.TheVariants.{Free, Kept, Small, Constant, Params, Value, Run, Arguments, ValueIf, BlockIf}
 
--- a part; the one that fills a list up is none
+-- a part
 abbrev pub part_is : Part → List definition.Part
 part_is (Free w) = definition.free w ∷ []
 part_is (Kept w) = definition.kept w ∷ []
@@ -24,16 +25,25 @@ part_is (Run Arm) = definition.arms ∷ []
 part_is Arguments = definition.arguments ∷ []
 part_is ValueIf = definition.value_if ∷ []
 part_is BlockIf = definition.block_if ∷ []
-part_is Nothing = []
 
 abbrev pub listed : List Part → List definition.Part
 listed [] = []
 listed (p ∷ ps) = part_is p ++ listed ps
 
--- the parts of a kind, if it is one; else a part that stops at once
-abbrev pub parts_for : Option (List definition.Part) → List definition.Part
-parts_for none = definition.small 0 ∷ []
-parts_for (some ps) = ps
+-- the parts of a kind, if it is one
+abbrev pub maybe_listed : Option (List Part) → math.Option (List definition.Part)
+maybe_listed None = none
+maybe_listed (Some ps) = some (listed ps)
+
+-- the parts of the kinds of a class
+abbrev pub of_class : Class → List (List definition.Part)
+of_class Statement = stmt_parts
+of_class Expression = expr_parts
+
+-- how many statements may stand one in another in a node of a class: an expression has no blocks
+abbrev pub blocks_of : Class → (depth : ℕ) → ℕ
+blocks_of Statement d = d
+blocks_of Expression d = 0
 
 -- a node in a holder
 abbrev pub node_of : (class : Class) (depth : ℕ) (s : List ℕ) (holder : ℕ) → Strip

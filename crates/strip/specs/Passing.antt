@@ -1,45 +1,43 @@
 -- What a pass over a part of the unit does to the buffer that the unit was copied to.
-use Rattle.std.specs.Prelude.{ℕ, ◌+◌, ◌≤◌, ◌≡◌, Bool, true, false, ◌&&◌, List, ◌++◌, leb, ltb, eqb, length, take, drop}
+use Rattle.std.specs.Prelude.{ℕ, ◌+◌, ◌≤◌, ◌≡◌, Bool, true, false, ◌&&◌, List, ◌++◌, leb, ltb, eqb, length, take, drop, Option, Some, None}
 use Rattle.definitions.specs.Bytes.{number}
 use Rattle.definitions.specs.Strip as definition
 use Rattle.definitions.specs.Strip.{Strip, keep, keep_below, keep_marks, blank_payload, strip_parts, strip_expr, strip_stmt}
 use Rattle.instr.specs.Values.{stored}
 use Rattle.strip.specs.Parts.{part_is}
-use Rattle.strip.specs.declared.Pass.{Pass}
-use Rattle.strip.specs.declared.Pass.TheVariants.{At, Stopped}
 use Rattle.strip.specs.declared.Part.{Part}
 
--- 1. Where a pass ends that writes nothing
+-- 1. Where a pass ends that writes nothing: where it stands then, and the mark or the count that was passed last; or it is stopped for good
 
 -- past w bytes, if they fit
-unfoldable pub fitting : (at w end n : ℕ) → Pass
-fitting at w end n = elim (leb (at + w) end) [ true ↦ At (at + w) n | false ↦ Stopped ]
+unfoldable pub fitting : (at w end n : ℕ) → Option (ℕ × ℕ)
+fitting at w end n = elim (leb (at + w) end) [ true ↦ Some (at + w, n) | false ↦ None ]
 
 -- past a length, if what it counts fits too, with the end of that
-unfoldable pub span_of : (s : List ℕ) (end at : ℕ) → Pass
+unfoldable pub span_of : (s : List ℕ) (end at : ℕ) → Option (ℕ × ℕ)
 span_of s end at = elim (leb (at + 4) end) [
-  | true ↦ elim (leb (at + 4 + number 4 s at) end) [ true ↦ At (at + 4) (at + 4 + number 4 s at) | false ↦ Stopped ]
-  | false ↦ Stopped
+  | true ↦ elim (leb (at + 4 + number 4 s at) end) [ true ↦ Some (at + 4, at + 4 + number 4 s at) | false ↦ None ]
+  | false ↦ None
 ]
 
-abbrev pub pass_if : Bool → Pass → Pass
-pass_if b r = elim b [ true ↦ r | false ↦ Stopped ]
+abbrev pub pass_if : Bool → Option (ℕ × ℕ) → Option (ℕ × ℕ)
+pass_if b r = elim b [ true ↦ r | false ↦ None ]
 
 -- a pass and then a check of where it ended and of what was passed last, with what is handed on in its place
-unfoldable pub guarded : (good : ℕ → ℕ → Bool) (to : ℕ → ℕ) → Pass → Pass
-guarded good to (At at n) = pass_if (good at n) (At at (to n))
-guarded good to Stopped = Stopped
+unfoldable pub guarded : (good : ℕ → ℕ → Bool) (to : ℕ → ℕ) → Option (ℕ × ℕ) → Option (ℕ × ℕ)
+guarded good to (Some (at, n)) = pass_if (good at n) (Some (at, to n))
+guarded good to None = None
 
 -- a number below a bound
-abbrev pub below_of : (bound : ℕ) → Pass → Pass
+abbrev pub below_of : (bound : ℕ) → Option (ℕ × ℕ) → Option (ℕ × ℕ)
 below_of bound = guarded (λ at n. ltb n bound) (λ n. n)
 
 -- n, whatever was passed
-abbrev pub handed : (n : ℕ) → Pass → Pass
+abbrev pub handed : (n : ℕ) → Option (ℕ × ℕ) → Option (ℕ × ℕ)
 handed n = guarded (λ at k. true) (λ k. n)
 
 -- at the end, with no more items than n
-abbrev pub closed_args : (end n : ℕ) → Pass → Pass
+abbrev pub closed_args : (end n : ℕ) → Option (ℕ × ℕ) → Option (ℕ × ℕ)
 closed_args end n = guarded (λ at k. eqb at end && leb k n) (λ k. n)
 
 -- a number in the buffer, if it fits
@@ -49,9 +47,9 @@ put_if at w end v o = elim (leb (at + w) end) [ true ↦ stored at w v o | false
 -- 2. The buffer
 
 -- what it will be, if k is what follows
-abbrev pub whole : Pass → (o : List ℕ) → (k : ℕ → ℕ → List ℕ) → List ℕ
-whole (At at n) o k = take at o ++ k n at
-whole Stopped o k = o
+abbrev pub whole : Option (ℕ × ℕ) → (o : List ℕ) → (k : ℕ → ℕ → List ℕ) → List ℕ
+whole (Some (at, n)) o k = take at o ++ k n at
+whole None o k = o
 
 -- it is as long as the unit s, and from `at` on it has the unit's bytes still
 pub record Copied (s : List ℕ) (at : ℕ) (o : List ℕ) : Type 0 where
@@ -59,30 +57,30 @@ pub record Copied (s : List ℕ) (at : ℕ) (o : List ℕ) : Type 0 where
   pub same : drop at o ≡ drop at s
 
 -- after a pass
-abbrev pub Left : (s : List ℕ) → Pass → (o : List ℕ) → Type 0
-Left s (At at n) o = Copied s at o
-Left s Stopped o = length o ≡ length s
+abbrev pub Left : (s : List ℕ) → Option (ℕ × ℕ) → (o : List ℕ) → Type 0
+Left s (Some (at, n)) o = Copied s at o
+Left s None o = length o ≡ length s
 
 -- a pass from `at` on did what the step says, for all that may follow
-pub record Did (s : List ℕ) (at : ℕ) (o : List ℕ) (step : (ℕ → Strip) → Strip) (r : Pass) (o' : List ℕ) : Type 0 where
+pub record Did (s : List ℕ) (at : ℕ) (o : List ℕ) (step : (ℕ → Strip) → Strip) (r : Option (ℕ × ℕ)) (o' : List ℕ) : Type 0 where
   pub same : (next : ℕ → Strip) (rest : ℕ → List ℕ) → whole r o' (λ n. next n rest) ≡ take at o ++ step next rest at
   pub left : Left s r o'
 
 -- the same of a pass that writes nothing
-abbrev pub KeptBy : (s : List ℕ) (at : ℕ) (step : (ℕ → Strip) → Strip) → Pass → Type 0
+abbrev pub KeptBy : (s : List ℕ) (at : ℕ) (step : (ℕ → Strip) → Strip) → Option (ℕ × ℕ) → Type 0
 KeptBy s at step r = (o : List ℕ) → Copied s at o → Did s at o step r o
 
 -- where a pass ends, if it goes on
-abbrev pub Within : (low high : ℕ) → Pass → Type 0
-Within low high (At at n) = (low ≤ at) × (at ≤ high)
-Within low high Stopped = Unit
+abbrev pub Within : (low high : ℕ) → Option (ℕ × ℕ) → Type 0
+Within low high (Some (at, n)) = (low ≤ at) × (at ≤ high)
+Within low high None = Unit
 
 -- the parts of a node, with `depth` for the expressions in it and `blocks` for the statements
 abbrev pub parts_in : (depth blocks : ℕ) (s : List ℕ) (end : ℕ) → List definition.Part → (n : ℕ) → Strip
 parts_in depth blocks s end = strip_parts s (strip_expr depth s) (strip_stmt blocks s) end
 
 -- a pass over a part, for all parts that may follow
-pub record Parted (depth blocks : ℕ) (s : List ℕ) (end : ℕ) (part : Part) (at n : ℕ) (o : List ℕ) (r : Pass) (o' : List ℕ) : Type 0 where
+pub record Parted (depth blocks : ℕ) (s : List ℕ) (end : ℕ) (part : Part) (at n : ℕ) (o : List ℕ) (r : Option (ℕ × ℕ)) (o' : List ℕ) : Type 0 where
   pub same : (ps : List definition.Part) (rest : ℕ → List ℕ) → whole r o' (λ n. parts_in depth blocks s end ps n rest) ≡ take at o ++ parts_in depth blocks s end (part_is part ++ ps) n rest at
   pub left : Left s r o'
 

@@ -1,13 +1,14 @@
-// The parts of each kind of node, in order. No byte is below 0, so a kind that is not listed is stopped by its one part.
-ghost use Rattle.std.specs.Prelude.{◌≡◌, ◌⊎◌, ◌<◌};
+// The parts of each kind of node, in order.
+ghost use Rattle.std.specs.Prelude.{◌≡◌, option_copied};
+ghost use Rattle.std.proofs.Math.Option.{some};
 ghost use Rattle.definitions.specs.Strip.{expr_parts, stmt_parts, parts_of};
-ghost use Rattle.strip.specs.Parts.{listed, parts_for};
+ghost use Rattle.ir.specs.Kinds.{expr_code, stmt_code};
+ghost use Rattle.strip.specs.Parts.{listed, maybe_listed, of_class, blocks_of};
 
 use super::Part;
-use ir::{Class, Item, expr, stmt};
-
-// The most parts of a kind.
-pub const MOST: usize = 8;
+use ir::expr::ExprKind;
+use ir::stmt::StmtKind;
+use ir::{Class, Item};
 
 // What runs of expressions and of statements hold.
 pub const EXPRS: Item = Item::Node(Class::Expression);
@@ -29,64 +30,80 @@ const BLOCK: Part = Part::Run(STMTS);
 
 const ARMS: Part = Part::Run(Item::Arm);
 
-const NO: Part = Part::Nothing;
+const CODE: Part = Part::Small(34);
+
+const FLAGS: Part = Part::Small(16);
 
 // The parts of an expression.
-pub fn expr_parts(kind: u8) -> [Part; MOST]
-    ensures { listed result ≡ parts_for (parts_of expr_parts kind) }
+#[tactic(auto, unfolding(definitions::specs::Strip::parts_of, definitions::specs::Strip::expr_parts))]
+fn expr_parts(kind: ExprKind) -> &'static [Part]
+    ensures { some (listed result.now) ≡ parts_of expr_parts (expr_code kind) }
 {
     match kind {
-        expr::NOP => [NO, NO, NO, NO, NO, NO, NO, NO],
-        expr::CONST => [Part::Constant, NO, NO, NO, NO, NO, NO, NO],
-        expr::NULL => [MARK, NO, NO, NO, NO, NO, NO, NO],
-        expr::NEW_INSTANCE => [INDEX, NO, NO, NO, NO, NO, NO, NO],
-        expr::CONSTRUCT => [INDEX, VALUES, NO, NO, NO, NO, NO, NO],
-        expr::ASSIGN => [VALUE, VALUE, NO, NO, NO, NO, NO, NO],
-        expr::FIELD => [Part::Small(3), INDEX, VALUE, NO, NO, NO, NO, NO],
-        expr::INDEX => [MARK, INDEX, VALUE, VALUE, NO, NO, NO, NO],
-        expr::CONDITIONAL => [VALUE, VALUE, VALUE, NO, NO, NO, NO, NO],
-        expr::DYN_CAST => [INDEX, MARK, VALUE, NO, NO, NO, NO, NO],
-        expr::LOCAL => [Part::Small(4), INDEX, NO, NO, NO, NO, NO, NO],
-        _ => call_parts(kind),
-    }
-}
-
-// The same for the kinds that are calls.
-fn call_parts(kind: u8) -> [Part; MOST]
-    requires { (kind ≡ 0) ⊎ (11 < kind) }
-    ensures { listed result ≡ parts_for (parts_of expr_parts kind) }
-{
-    let code = Part::Small(34);
-    let types = Part::Kept(1);
-    let flags = Part::Small(16);
-    let params = Part::Params;
-    let args = Part::Arguments;
-    match kind {
-        expr::INTRINSIC_CALL => [code, MARK, types, INDEX, VALUES, NO, NO, NO],
-        expr::FREE_CALL => [INDEX, INDEX, LINE, flags, params, args, NO, NO],
-        expr::STATIC_CALL => [INDEX, INDEX, LINE, flags, params, args, NO, NO],
-        expr::INSTANCE_CALL => [MARK, VALUE, INDEX, INDEX, LINE, flags, params, args],
-        expr::CLOSURE_CALL => [VALUE, INDEX, LINE, VALUES, NO, NO, NO, NO],
-        _ => [Part::Small(0), NO, NO, NO, NO, NO, NO, NO],
+        ExprKind::Nop => &[],
+        ExprKind::Const => &[Part::Constant],
+        ExprKind::Null => &[MARK],
+        ExprKind::NewInstance => &[INDEX],
+        ExprKind::Construct => &[INDEX, VALUES],
+        ExprKind::Assign => &[VALUE, VALUE],
+        ExprKind::Field => &[Part::Small(3), INDEX, VALUE],
+        ExprKind::Index => &[MARK, INDEX, VALUE, VALUE],
+        ExprKind::Conditional => &[VALUE, VALUE, VALUE],
+        ExprKind::DynCast => &[INDEX, MARK, VALUE],
+        ExprKind::Local => &[Part::Small(4), INDEX],
+        ExprKind::IntrinsicCall => &[CODE, MARK, Part::Kept(1), INDEX, VALUES],
+        ExprKind::FreeCall | ExprKind::StaticCall => {
+            &[INDEX, INDEX, LINE, FLAGS, Part::Params, Part::Arguments]
+        }
+        ExprKind::InstanceCall => &[
+            MARK,
+            VALUE,
+            INDEX,
+            INDEX,
+            LINE,
+            FLAGS,
+            Part::Params,
+            Part::Arguments,
+        ],
+        ExprKind::ClosureCall => &[VALUE, INDEX, LINE, VALUES],
     }
 }
 
 // The parts of a statement.
-pub fn stmt_parts(kind: u8) -> [Part; MOST]
-    ensures { listed result ≡ parts_for (parts_of stmt_parts kind) }
+#[tactic(auto, unfolding(definitions::specs::Strip::parts_of, definitions::specs::Strip::stmt_parts))]
+fn stmt_parts(kind: StmtKind) -> &'static [Part]
+    ensures { some (listed result.now) ≡ parts_of stmt_parts (stmt_code kind) }
 {
-    let block_if = Part::BlockIf;
     match kind {
-        stmt::EXPR => [VALUE, NO, NO, NO, NO, NO, NO, NO],
-        stmt::BLOCK => [BLOCK, NO, NO, NO, NO, NO, NO, NO],
-        stmt::WHILE => [VALUE, BLOCK, NO, NO, NO, NO, NO, NO],
-        stmt::BRANCHES => [ARMS, MARK, block_if, NO, NO, NO, NO, NO],
-        stmt::SWITCH => [INDEX, VALUE, Part::Kept(4), MARK, ARMS, block_if, NO, NO],
-        stmt::INIT_ARRAY => [INDEX, INDEX, VALUES, NO, NO, NO, NO, NO],
-        stmt::INIT_DEFAULT => [INDEX, Part::Small(23), INDEX, NO, NO, NO, NO, NO],
-        stmt::BREAK => [NO, NO, NO, NO, NO, NO, NO, NO],
-        stmt::CONTINUE => [NO, NO, NO, NO, NO, NO, NO, NO],
-        stmt::RETURN => [MARK, Part::ValueIf, NO, NO, NO, NO, NO, NO],
-        _ => [Part::Small(0), NO, NO, NO, NO, NO, NO, NO],
+        StmtKind::Expr => &[VALUE],
+        StmtKind::Block => &[BLOCK],
+        StmtKind::While => &[VALUE, BLOCK],
+        StmtKind::Branches => &[ARMS, MARK, Part::BlockIf],
+        StmtKind::Switch => &[INDEX, VALUE, Part::Kept(4), MARK, ARMS, Part::BlockIf],
+        StmtKind::InitArray => &[INDEX, INDEX, VALUES],
+        StmtKind::InitDefault => &[INDEX, Part::Small(23), INDEX],
+        StmtKind::Break | StmtKind::Continue => &[],
+        StmtKind::Return => &[MARK, Part::ValueIf],
+    }
+}
+
+// The parts of a node of a class, if its kind has this number.
+#[tactic(auto, using(crate::proofs::PartLaws::no_expr, crate::proofs::PartLaws::no_stmt))]
+pub fn parts_of(class: Class, code: u8) -> Option<&'static [Part]>
+    ensures { maybe_listed (option_copied result) ≡ parts_of (of_class class) code }
+{
+    match class {
+        Class::Statement => Some(stmt_parts(StmtKind::try_from(code).ok()?)),
+        Class::Expression => Some(expr_parts(ExprKind::try_from(code).ok()?)),
+    }
+}
+
+// The depth that is left for the statements in a node of a class, which an expression has none of.
+pub fn blocks_in(class: Class, depth: usize) -> usize
+    ensures { result ≡ blocks_of class depth }
+{
+    match class {
+        Class::Statement => depth,
+        Class::Expression => 0,
     }
 }

@@ -9,25 +9,12 @@ mod fields;
 mod kinds;
 mod nodes;
 
-use ir::{Item, Refusal};
+use instr::refusals::{Reason, Refusal};
+use ir::Item;
 use nodes::strip_unit;
 
-// How many bytes the stripped unit has, or why there is none.
-#[derive(Clone, Copy)]
-pub enum Stripped {
-    Done { count: usize },
-    Refused(Refusal),
-}
-
-// Where stripping stands: at a position, with the mark or the count that was passed last, or stopped for good.
-#[derive(Clone, Copy)]
-enum Pass {
-    At { at: usize, n: usize },
-    Stopped,
-}
-
 // What a node has after its kind: bytes that may differ, bytes that may not, a byte below a bound, a constant, a callee's parameters, an
-// expression, a run, a call's arguments, and what is there if the mark that was passed last is 1. `Nothing` fills a list up.
+// expression, a run, a call's arguments, and what is there if the mark that was passed last is 1.
 #[derive(Clone, Copy)]
 enum Part {
     Free(usize),
@@ -40,44 +27,28 @@ enum Part {
     Arguments,
     ValueIf,
     BlockIf,
-    Nothing,
-}
-
-// The unit, into a buffer of its length.
-fn copy_unit(unit: &[u8], out: &mut [u8])
-    requires { length out.old ≡ length unit.now }
-    ensures { out.new ≡ unit.now }
-{
-    let mut k = 0;
-    while k < unit.len() {
-        out[k] = unit[k];
-        k += 1;
-    }
 }
 
 // The unit stripped, into a buffer of its length. A unit whose front is not good stays as it is.
+#[tactic(auto, using(crate::proofs::UnitLaws::no_unit))]
 fn strip_whole(unit: &[u8], out: &mut [u8])
     requires { length out.old ≡ length unit.now }
     ensures { out.new ≡ strip unit.now }
 {
-    copy_unit(unit, out);
+    out.copy_from_slice(unit);
     if ir::front_good(unit) {
         strip_unit(unit, out);
     }
 }
 
-// The unit without what may differ, or the refusal 20, which leaves the buffer as it was.
-pub fn strip(unit: &[u8], out: &mut [u8]) -> Stripped
+// The unit without what may differ, and how many bytes that is; where the buffer is too short, a refusal, which leaves it as it was.
+pub fn strip(unit: &[u8], out: &mut [u8]) -> Result<usize, Refusal>
     ensures { stripping result out.new ≡ strip_to (strip_into unit.now (length out.old)) out.old }
 {
     let n = unit.len();
     if out.len() < n {
-        return Stripped::Refused(Refusal {
-            number: 20,
-            place: 0,
-            extra: 0,
-        });
+        return Err(Refusal::of(Reason::Room));
     }
     strip_whole(unit, &mut out[0..n]);
-    Stripped::Done { count: n }
+    Ok(n)
 }

@@ -5,9 +5,9 @@ ghost use Rattle.definitions.specs.Strip.{strip, ◌and◌, strip_items, strip_r
 ghost use Rattle.strip.specs.Parts.{listed, node_of, item_of};
 ghost use Rattle.strip.specs.Passing.{Did, Within, Parted, Ready, parts_in};
 
-use super::fields::{below, blank, byte, close, close_call, constant, hand, keep, params, span};
-use super::kinds::{EXPRS, MOST, STMTS, expr_parts, stmt_parts};
-use super::{Part, Pass};
+use super::Part;
+use super::fields::{below, blank, close, close_call, constant, hand, keep, params, span};
+use super::kinds::{EXPRS, STMTS, blocks_in, parts_of};
 use ir::{Class, Item};
 
 // A node of a class, in a holder that ends at `end`: its depth, its length, its kind, its parts; n is handed on.
@@ -20,25 +20,18 @@ fn strip_node(
     end: usize,
     depth: usize,
     class: Class,
-) -> Pass
+) -> Option<(usize, usize)>
     requires { Ready s.now at end out.old }
     ensures { Did s.now at out.old (λ next. node_of class depth s.now end and next n) result out.new × Within (at + 1) end result }
 {
     if depth == 0 {
-        return Pass::Stopped;
+        return None;
     }
-    let Pass::At { at: first, n: stop } = span(s, at, end) else {
-        return Pass::Stopped;
-    };
-    let Pass::At { at: body, n: _n } = keep(first, 0, stop, 1) else {
-        return Pass::Stopped;
-    };
-    let kind = s[first];
+    let (first, stop) = span(s, at, end)?;
+    let (body, _n) = keep(first, 0, stop, 1)?;
+    let parts = parts_of(class, s[first])?;
     let inner = depth - 1;
-    match class {
-        Class::Statement => strip_parts(s, out, body, n, stop, inner, inner, stmt_parts(kind)),
-        Class::Expression => strip_parts(s, out, body, n, stop, inner, 0, expr_parts(kind)),
-    }
+    strip_parts(s, out, body, n, stop, inner, blocks_in(class, inner), parts)
 }
 
 // The parts of a node and its end, with `depth` for the expressions in it and `blocks` for the statements, which is 0 in an expression.
@@ -51,26 +44,16 @@ fn strip_parts(
     end: usize,
     depth: usize,
     blocks: usize,
-    parts: [Part; MOST],
-) -> Pass
+    parts: &[Part],
+) -> Option<(usize, usize)>
     requires ready { Ready s.now at end out.old }
     requires blocks_le_depth { blocks ≤ depth }
-    ensures { Did s.now at out.old (λ next. parts_in depth blocks s.now end (listed parts) 0 and next n) result out.new × Within end end result }
+    ensures { Did s.now at out.old (λ next. parts_in depth blocks s.now end (listed parts.now) 0 and next n) result out.new × Within end end result }
 {
     let mut next = at;
     let mut last = 0;
-    let mut i = 0;
-    while i < MOST {
-        match strip_part(s, out, next, last, end, depth, blocks, parts[i]) {
-            Pass::Stopped => {
-                return Pass::Stopped;
-            }
-            Pass::At { at: p, n: m } => {
-                next = p;
-                last = m;
-                i += 1;
-            }
-        }
+    for part in parts {
+        (next, last) = strip_part(s, out, next, last, end, depth, blocks, *part)?;
     }
     close(next, n, end)
 }
@@ -86,7 +69,7 @@ fn strip_part(
     depth: usize,
     blocks: usize,
     part: Part,
-) -> Pass
+) -> Option<(usize, usize)>
     requires ready { Ready s.now at end out.old }
     requires blocks_le_depth { blocks ≤ depth }
     ensures { Parted depth blocks s.now end part at n out.old result out.new }
@@ -94,7 +77,7 @@ fn strip_part(
     match part {
         Part::Free(w) => blank(out, at, n, end, w, 0),
         Part::Kept(w) => keep(at, n, end, w),
-        Part::Small(bound) => below(byte(s, at, end), bound),
+        Part::Small(bound) => below(s, at, end, bound),
         Part::Constant => constant(s, out, at, n, end),
         Part::Params => params(s, at, end),
         Part::Value => strip_node(s, out, at, n, end, depth, Class::Expression),
@@ -102,17 +85,16 @@ fn strip_part(
         Part::Arguments => close_call(strip_run(s, out, at, end, depth, blocks, EXPRS), n, end),
         Part::ValueIf => {
             if n == 0 {
-                return Pass::At { at, n };
+                return Some((at, n));
             }
             strip_node(s, out, at, n, end, depth, Class::Expression)
         }
         Part::BlockIf => {
             if n == 0 {
-                return Pass::At { at, n };
+                return Some((at, n));
             }
             hand(strip_run(s, out, at, end, depth, blocks, STMTS), n)
         }
-        Part::Nothing => Pass::At { at, n },
     }
 }
 
@@ -126,15 +108,13 @@ fn strip_run(
     depth: usize,
     blocks: usize,
     item: Item,
-) -> Pass
+) -> Option<(usize, usize)>
     requires ready { Ready s.now at end out.old }
     requires blocks_le_depth { blocks ≤ depth }
     ensures { Did s.now at out.old (strip_run s.now end (item_of item depth blocks s.now)) result out.new × Within (at + 1) end result }
 {
-    match span(s, at, end) {
-        Pass::Stopped => Pass::Stopped,
-        Pass::At { at: first, n: stop } => strip_items(s, out, first, stop, depth, blocks, item),
-    }
+    let (first, stop) = span(s, at, end)?;
+    strip_items(s, out, first, stop, depth, blocks, item)
 }
 
 // Items from `at` up to `end`, and how many.
@@ -147,7 +127,7 @@ fn strip_items(
     depth: usize,
     blocks: usize,
     item: Item,
-) -> Pass
+) -> Option<(usize, usize)>
     requires ready { Ready s.now at end out.old }
     requires blocks_le_depth { (blocks ≤ depth) × (at ≤ end) }
     ensures { Did s.now at out.old (strip_items s.now (item_of item depth blocks s.now end) (suc (end - at)) end 0) result out.new × Within at end result }
@@ -155,17 +135,10 @@ fn strip_items(
     let mut next = at;
     let mut count = 0;
     while next < end {
-        match strip_item(s, out, next, count, end, depth, blocks, item) {
-            Pass::Stopped => {
-                return Pass::Stopped;
-            }
-            Pass::At { at: p, n: _n } => {
-                next = p;
-                count += 1;
-            }
-        }
+        next = strip_item(s, out, next, count, end, depth, blocks, item)?.0;
+        count += 1;
     }
-    Pass::At { at: end, n: count }
+    Some((end, count))
 }
 
 // An item of a run: a node, or an arm, which is a condition (a matcher) and a block; n is handed on.
@@ -179,7 +152,7 @@ fn strip_item(
     depth: usize,
     blocks: usize,
     item: Item,
-) -> Pass
+) -> Option<(usize, usize)>
     requires ready { Ready s.now at end out.old }
     requires blocks_le_depth { blocks ≤ depth }
     ensures { Did s.now at out.old (λ next. item_of item depth blocks s.now end and next n) result out.new × Within (at + 1) end result }
@@ -190,10 +163,7 @@ fn strip_item(
             Class::Expression => strip_node(s, out, at, n, end, depth, Class::Expression),
         },
         Item::Arm => {
-            let test = strip_node(s, out, at, n, end, depth, Class::Expression);
-            let Pass::At { at: body, n: _n } = test else {
-                return Pass::Stopped;
-            };
+            let (body, _n) = strip_node(s, out, at, n, end, depth, Class::Expression)?;
             hand(strip_run(s, out, body, end, depth, blocks, STMTS), n)
         }
     }

@@ -17,4 +17,4 @@ scan_block-requires c =
 
 pub returns : goal.returns
 returns c =
-    unit_fits _ _ _ (front_is_good _ _ c.front_good.ensures c.if-not-front_good.false) c.wide.ensures.0 c.scan_block.ensures
+    unit_fits _ _ _ (front_is_good _ _ c.front_good.ensures c.if-not-front_good.false) c.from.ensures c.scan_block.ensures

@@ -6,7 +6,7 @@ use Rattle.strip.proofs.strip.Goals as goal
 
 pub returns-then-out-n : goal.returns-then-out-n
 unfolding stripping
-returns-then-out-n c = answer_20 _ _ c.if-out-n.true
+returns-then-out-n c = rw c.of.ensures (answer_20 _ _ c.if-out-n.true)
 
 pub returns : goal.returns
 unfolding stripping

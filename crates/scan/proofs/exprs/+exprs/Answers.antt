@@ -3,10 +3,10 @@ use Prim.Native.Nat.{◌+◌, ◌-◌}
 use mathlib.Core.Path.{refl}
 use mathlib.Core.Logic.{inl}
 use Rattle.scan.specs.Scanned.{Or0, BodyAt}
-use Rattle.scan.proofs.ExprLaws.{found, within, paid, fields_in, first, moved, call_found, nop_found, const_found, null_found, new_found, construct_found, assign_found, field_found, index_found, conditional_found, cast_found, local_found, intrinsic_found, free_found, static_found, instance_found, closure_found, expr_found}
+use Rattle.scan.proofs.ExprLaws.{code_is, found, within, paid, fields_in, first, moved, call_found, nop_found, const_found, null_found, new_found, construct_found, assign_found, field_found, index_found, conditional_found, cast_found, local_found, intrinsic_found, free_found, static_found, instance_found, closure_found, expr_found}
 use Rattle.scan.proofs.RunLaws.{run_start, run_more, run_end, args_start, args_more, args_end}
 use Rattle.scan.proofs.exprs.+exprs.Goals as goal
-use Rattle.scan.proofs.exprs.+exprs.Goals.{scan_expr-in-1, scan_expr-in-2, scan_expr-in-3, scan_expr-in-4, scan_expr-in-11, scan_expr-in-6, scan_expr-in-8, scan_expr-in-10, scan_expr-in_default, scan_field-then-form-gt0+else-not-pay+else-not-pay-2, scan_field-else-form-gt0}
+use Rattle.scan.proofs.exprs.+exprs.Goals.{scan_expr-in-Nop, scan_expr-in-Const, scan_expr-in-Null, scan_expr-in-NewInstance, scan_expr-in-Local, scan_expr-in-Assign, scan_expr-in-Index, scan_expr-in-DynCast, scan_expr-in_default-kind, scan_field-then-form-gt0+else-not-pay+else-not-pay-2, scan_field-else-form-gt0}
 
 pub late_expr-scan_expr-b-requires : goal.late_expr-scan_expr-b-requires
 late_expr-scan_expr-b-requires t c = (omega (arith, c.decreases), (within c.scan_expr-a.ensures, c.requires.1))
@@ -15,13 +15,13 @@ pub late_expr-scan_expr-requires : goal.late_expr-scan_expr-requires
 late_expr-scan_expr-requires t c = (omega (arith, c.decreases), (within c.scan_expr-b.ensures, c.requires.1))
 
 pub late_expr-returns-else-not-pay : goal.late_expr-returns-else-not-pay
-late_expr-returns-else-not-pay t c = conditional_found c.in-9.is (paid _ _ _ _ c.pay.ensures c.if-not-pay.false) c.scan_expr-a.ensures c.scan_expr-b.ensures c.scan_expr.ensures
+late_expr-returns-else-not-pay t c = conditional_found (code_is c.requires.2 c.in-Conditional.is) (paid _ _ _ _ c.pay.ensures c.if-not-pay.false) c.scan_expr-a.ensures c.scan_expr-b.ensures c.scan_expr.ensures
 
-pub late_expr-returns-in-13 : goal.late_expr-returns-in-13
-late_expr-returns-in-13 t c = free_found c.in-13.is c.scan_call.ensures
+pub late_expr-returns-in-FreeCall : goal.late_expr-returns-in-FreeCall
+late_expr-returns-in-FreeCall t c = free_found (code_is c.requires.2 c.in-FreeCall.is) c.scan_call.ensures
 
 pub late_expr-returns-else-not-pay-2 : goal.late_expr-returns-else-not-pay-2
-late_expr-returns-else-not-pay-2 t c = static_found c.in-14.is (paid _ _ _ _ c.pay-in-14.ensures c.if-not-pay-2.false) c.scan_call-in-14.ensures
+late_expr-returns-else-not-pay-2 t c = static_found (code_is c.requires.2 c.in-StaticCall.is) (paid _ _ _ _ c.pay-in-StaticCall.ensures c.if-not-pay-2.false) c.scan_call-in-StaticCall.ensures
 
 pub scan_args-loop-next-init : goal.scan_args-loop-next-init
 scan_args-loop-next-init t c = args_start _ _ _ _ _ _ _ _ c.requires.0
@@ -51,11 +51,11 @@ pub scan_call-overflow_add-a-3 : goal.scan_call-overflow_add-a-3
 scan_call-overflow_add-a-3 t c = let f = fields_in c.after_fields-a.ensures in let g = found c.span_end.ensures (omega (arith, c.if-span_end-stop, c.if-a-eq0, c.if-stop-a, f)) in omega (arith, g.1, c.if-span_end-stop, c.ranges)
 
 pub scan_call-scan_args-requires : goal.scan_call-scan_args-requires
-scan_call-scan_args-requires t c = let f = fields_in c.after_fields-a.ensures in let g = found c.span_end.ensures (omega (arith, c.if-span_end-stop, c.if-a-eq0, c.if-stop-a, f)) in (omega (arith, c.decreases), (omega (arith, g.1, c.if-span_end-stop), c.requires.1, omega arith, c.wide-n.ensures.1))
+scan_call-scan_args-requires t c = let f = fields_in c.after_fields-a.ensures in let g = found c.span_end.ensures (omega (arith, c.if-span_end-stop, c.if-a-eq0, c.if-stop-a, f)) in (omega (arith, c.decreases), (omega (arith, g.1, c.if-span_end-stop), c.requires.1, omega arith, omega (arith, c.from-n.ensures)))
 
 pub scan_call-returns : goal.scan_call-returns
 scan_call-returns t c = let f = fields_in c.after_fields-a.ensures in
-    call_found (omega (arith, c.if-at-eq0)) c.after_fields-a.ensures (omega (arith, c.if-a-eq0)) c.wide-n.ensures.0 (omega (arith, f, c.if-stop-a)) (c.marks_good.ensures c.if-not-marks_good.false) c.span_end.ensures c.if-span_end-stop.false (paid _ _ _ _ c.pay.ensures c.if-not-pay.false) (paid _ _ _ _ c.pay-2.ensures c.if-not-pay-2.false) c.scan_args.ensures
+    call_found (omega (arith, c.if-at-eq0)) c.after_fields-a.ensures (omega (arith, c.if-a-eq0)) c.from-n.ensures (omega (arith, f, c.if-stop-a)) (c.marks_good.ensures c.if-not-marks_good.false) c.span_end.ensures c.if-span_end-stop.false (paid _ _ _ _ c.pay.ensures c.if-not-pay.false) (paid _ _ _ _ c.pay-2.ensures c.if-not-pay-2.false) c.scan_args.ensures
 
 pub scan_closure-overflow_sub-stop : goal.scan_closure-overflow_sub-stop
 scan_closure-overflow_sub-stop t c = within c.scan_expr-a.ensures
@@ -78,8 +78,8 @@ scan_expr-after_const-last-requires t c = let f = found c.node_end-stop.ensures 
 pub scan_expr-after_fields-last-requires : goal.scan_expr-after_fields-last-requires
 scan_expr-after_fields-last-requires t c = let f = found c.node_end-stop.ensures (omega (arith, c.if-stop-eq0)) in (f.3, omega (arith, f.4, c.requires.1), omega arith)
 
-pub scan_expr-after_fields-last-requires-in-11 : goal.scan_expr-after_fields-last-requires-in-11
-scan_expr-after_fields-last-requires-in-11 t c = let f = found c.node_end-stop.ensures (omega (arith, c.if-stop-eq0)) in (f.3, omega (arith, f.4, c.requires.1), omega arith)
+pub scan_expr-after_fields-last-requires-in-Local : goal.scan_expr-after_fields-last-requires-in-Local
+scan_expr-after_fields-last-requires-in-Local t c = let f = found c.node_end-stop.ensures (omega (arith, c.if-stop-eq0)) in (f.3, omega (arith, f.4, c.requires.1), omega arith)
 
 pub scan_expr-scan_expr-a-requires : goal.scan_expr-scan_expr-a-requires
 scan_expr-scan_expr-a-requires t c = let f = found c.node_end-stop.ensures (omega (arith, c.if-stop-eq0)) in (omega (arith, c.decreases, f.2), (f.3, omega (arith, f.4, c.requires.1)))
@@ -93,29 +93,29 @@ scan_expr-after_fields-a-requires t c = let f = found c.node_end-stop.ensures (o
 pub scan_expr-scan_expr-b-requires : goal.scan_expr-scan_expr-b-requires
 scan_expr-scan_expr-b-requires t c = let f = found c.node_end-stop.ensures (omega (arith, c.if-stop-eq0)) in (omega (arith, c.decreases, f.2), (fields_in c.after_fields-a.ensures, omega (arith, f.4, c.requires.1)))
 
-pub scan_expr-scan_expr-last-requires-in-8 : goal.scan_expr-scan_expr-last-requires-in-8
-scan_expr-scan_expr-last-requires-in-8 t c = let f = found c.node_end-stop.ensures (omega (arith, c.if-stop-eq0)) in (omega (arith, c.decreases, f.2), (within c.scan_expr-b.ensures, omega (arith, f.4, c.requires.1)))
+pub scan_expr-scan_expr-last-requires-in-Index : goal.scan_expr-scan_expr-last-requires-in-Index
+scan_expr-scan_expr-last-requires-in-Index t c = let f = found c.node_end-stop.ensures (omega (arith, c.if-stop-eq0)) in (omega (arith, c.decreases, f.2), (within c.scan_expr-b.ensures, omega (arith, f.4, c.requires.1)))
 
-pub scan_expr-after_fields-a-requires-in-10 : goal.scan_expr-after_fields-a-requires-in-10
-scan_expr-after_fields-a-requires-in-10 t c = let f = found c.node_end-stop.ensures (omega (arith, c.if-stop-eq0)) in (f.3, omega (arith, f.4, c.requires.1), omega arith)
+pub scan_expr-after_fields-a-requires-in-DynCast : goal.scan_expr-after_fields-a-requires-in-DynCast
+scan_expr-after_fields-a-requires-in-DynCast t c = let f = found c.node_end-stop.ensures (omega (arith, c.if-stop-eq0)) in (f.3, omega (arith, f.4, c.requires.1), omega arith)
 
-pub scan_expr-scan_expr-last-requires-in-10 : goal.scan_expr-scan_expr-last-requires-in-10
-scan_expr-scan_expr-last-requires-in-10 t c = let f = found c.node_end-stop.ensures (omega (arith, c.if-stop-eq0)) in (omega (arith, c.decreases, f.2), (fields_in c.after_fields-a-in-10.ensures, omega (arith, f.4, c.requires.1)))
+pub scan_expr-scan_expr-last-requires-in-DynCast : goal.scan_expr-scan_expr-last-requires-in-DynCast
+scan_expr-scan_expr-last-requires-in-DynCast t c = let f = found c.node_end-stop.ensures (omega (arith, c.if-stop-eq0)) in (omega (arith, c.decreases, f.2), (fields_in c.after_fields-a-in-DynCast.ensures, omega (arith, f.4, c.requires.1)))
 
 pub scan_expr-late_expr-last-requires : goal.scan_expr-late_expr-last-requires
-scan_expr-late_expr-last-requires t c = let f = found c.node_end-stop.ensures (omega (arith, c.if-stop-eq0)) in (omega (arith, c.decreases, f.2), (f.3, omega (arith, f.4, c.requires.1)))
+scan_expr-late_expr-last-requires t c = let f = found c.node_end-stop.ensures (omega (arith, c.if-stop-eq0)) in (omega (arith, c.decreases, f.2), (f.3, omega (arith, f.4, c.requires.1), c.in-Ok.ensures))
 
 pub scan_expr-returns-then-last-stop : goal.scan_expr-returns-then-last-stop
 scan_expr-returns-then-last-stop t c = let b : Or0 c.match-kind.last (BodyAt (c.args.depth - 1) c.args.s.now c.node_end-stop.result c.args.at c.match-kind.last c.pay.new.left c.args.labels.now c.match-kind.records c.match-kind.labels) = elim c.match-kind.branch [
-  | scan_expr-in-1 w ↦ moved w.records-is w.labels-is w.last-is (nop_found w.in-1.is refl)
-  | scan_expr-in-2 w ↦ moved w.records-is w.labels-is w.last-is (const_found w.in-2.is w.after_const-last.ensures)
-  | scan_expr-in-3 w ↦ moved w.records-is w.labels-is w.last-is (null_found w.in-3.is w.after_fields-last.ensures)
-  | scan_expr-in-4 w ↦ moved w.records-is w.labels-is w.last-is (new_found w.in-4.is refl (omega (arith, w.last-is, c.if-last-stop.true)))
-  | scan_expr-in-11 w ↦ moved w.records-is w.labels-is w.last-is (local_found w.in-11.is w.after_fields-last-in-11.ensures)
-  | scan_expr-in-6 w ↦ moved w.records-is w.labels-is w.last-is (assign_found w.in-6.is w.scan_expr-a.ensures w.scan_expr-last.ensures)
-  | scan_expr-in-8 w ↦ moved w.records-is w.labels-is w.last-is (index_found w.in-8.is w.after_fields-a.ensures w.scan_expr-b.ensures w.scan_expr-last-in-8.ensures)
-  | scan_expr-in-10 w ↦ moved w.records-is w.labels-is w.last-is (cast_found w.in-10.is w.after_fields-a-in-10.ensures w.scan_expr-last-in-10.ensures)
-  | scan_expr-in_default w ↦ moved w.records-is w.labels-is w.last-is w.late_expr-last.ensures
+  | scan_expr-in-Nop w ↦ moved w.records-is w.labels-is w.last-is (nop_found (code_is c.in-Ok.ensures w.in-Nop.is) refl)
+  | scan_expr-in-Const w ↦ moved w.records-is w.labels-is w.last-is (const_found (code_is c.in-Ok.ensures w.in-Const.is) w.after_const-last.ensures)
+  | scan_expr-in-Null w ↦ moved w.records-is w.labels-is w.last-is (null_found (code_is c.in-Ok.ensures w.in-Null.is) w.after_fields-last.ensures)
+  | scan_expr-in-NewInstance w ↦ moved w.records-is w.labels-is w.last-is (new_found (code_is c.in-Ok.ensures w.in-NewInstance.is) refl (omega (arith, w.last-is, c.if-last-stop.true)))
+  | scan_expr-in-Local w ↦ moved w.records-is w.labels-is w.last-is (local_found (code_is c.in-Ok.ensures w.in-Local.is) w.after_fields-last-in-Local.ensures)
+  | scan_expr-in-Assign w ↦ moved w.records-is w.labels-is w.last-is (assign_found (code_is c.in-Ok.ensures w.in-Assign.is) w.scan_expr-a.ensures w.scan_expr-last.ensures)
+  | scan_expr-in-Index w ↦ moved w.records-is w.labels-is w.last-is (index_found (code_is c.in-Ok.ensures w.in-Index.is) w.after_fields-a.ensures w.scan_expr-b.ensures w.scan_expr-last-in-Index.ensures)
+  | scan_expr-in-DynCast w ↦ moved w.records-is w.labels-is w.last-is (cast_found (code_is c.in-Ok.ensures w.in-DynCast.is) w.after_fields-a-in-DynCast.ensures w.scan_expr-last-in-DynCast.ensures)
+  | scan_expr-in_default-kind w ↦ moved w.records-is w.labels-is w.last-is w.late_expr-last.ensures
 ] in
     expr_found c.args.depth c.node_end-stop.ensures (omega (arith, c.if-stop-eq0)) (paid _ _ _ _ c.pay.ensures c.if-not-pay.false) b c.if-last-stop.true
 
@@ -130,8 +130,8 @@ scan_field-returns t c = elim c.if-form-gt0.branch [
   | scan_field-then-form-gt0+else-not-pay+else-not-pay-2 w ↦
       let p = paid _ _ _ _ w.pay.ensures w.if-not-pay.false in
       let q = paid _ _ _ _ w.pay-then-form-gt0.ensures w.if-not-pay-2.false in
-      field_found 1 c.requires.2 c.after_fields-a.ensures (omega (arith, w.records-is, p, c.wide-form.ensures.0)) (omega (arith, w.labels-is, q)) (λ _. omega arith) c.scan_expr.ensures
-  | scan_field-else-form-gt0 w ↦ field_found 0 c.requires.2 c.after_fields-a.ensures (omega (arith, w.if-form-gt0.false, w.records-is, c.wide-form.ensures.0)) (omega (arith, w.labels-is)) (λ h. absurd (omega (arith, h, w.if-form-gt0.false, c.wide-form.ensures.0))) c.scan_expr.ensures
+      field_found 1 c.requires.2 c.after_fields-a.ensures (omega (arith, w.records-is, p, c.from-form.ensures)) (omega (arith, w.labels-is, q)) (λ _. omega arith) c.scan_expr.ensures
+  | scan_field-else-form-gt0 w ↦ field_found 0 c.requires.2 c.after_fields-a.ensures (omega (arith, w.if-form-gt0.false, w.records-is, c.from-form.ensures)) (omega (arith, w.labels-is)) (λ h. absurd (omega (arith, h, w.if-form-gt0.false, c.from-form.ensures))) c.scan_expr.ensures
 ]
 
 pub scan_instance-bounds-s-at : goal.scan_instance-bounds-s-at
@@ -144,7 +144,7 @@ pub scan_instance-scan_call-requires : goal.scan_instance-scan_call-requires
 scan_instance-scan_call-requires t c = (omega (arith, c.decreases), (within c.scan_expr-b.ensures, c.requires.1))
 
 pub scan_instance-returns : goal.scan_instance-returns
-scan_instance-returns t c = let p = paid _ _ _ _ c.pay.ensures c.if-not-pay.false in instance_found c.requires.2 c.after_fields-a.ensures (omega (arith, p, c.wide.ensures.0)) (paid _ _ _ _ c.pay-2.ensures c.if-not-pay-2.false) c.scan_expr-b.ensures c.scan_call.ensures
+scan_instance-returns t c = let p = paid _ _ _ _ c.pay.ensures c.if-not-pay.false in instance_found c.requires.2 c.after_fields-a.ensures (omega (arith, p, c.from.ensures)) (paid _ _ _ _ c.pay-2.ensures c.if-not-pay-2.false) c.scan_expr-b.ensures c.scan_call.ensures
 
 pub scan_intrinsic-bounds-s-at : goal.scan_intrinsic-bounds-s-at
 scan_intrinsic-bounds-s-at t c = let f = found c.after_fields-a.ensures (omega (arith, c.if-a-eq0)) in omega (arith, f.1, c.requires.1)
@@ -156,13 +156,13 @@ pub scan_intrinsic-bounds-s-at-3 : goal.scan_intrinsic-bounds-s-at-3
 scan_intrinsic-bounds-s-at-3 t c = let f = found c.after_fields-a.ensures (omega (arith, c.if-a-eq0)) in omega (arith, f.1, c.requires.1)
 
 pub scan_intrinsic-typed-requires : goal.scan_intrinsic-typed-requires
-scan_intrinsic-typed-requires t c = let f = found c.after_fields-a.ensures (omega (arith, c.if-a-eq0)) in omega (arith, first c.args.s.now (c.args.at + 5) f.2, c.wide.ensures.0)
+scan_intrinsic-typed-requires t c = let f = found c.after_fields-a.ensures (omega (arith, c.if-a-eq0)) in omega (arith, first c.args.s.now (c.args.at + 5) f.2, c.from.ensures)
 
 pub scan_intrinsic-scan_run-requires : goal.scan_intrinsic-scan_run-requires
 scan_intrinsic-scan_run-requires t c = (omega (arith, c.decreases), (fields_in c.after_fields-a.ensures, c.requires.1))
 
 pub scan_intrinsic-returns : goal.scan_intrinsic-returns
-scan_intrinsic-returns t c = intrinsic_found c.requires.2 c.after_fields-a.ensures (omega (arith, c.if-a-eq0)) c.wide.ensures.0 c.wide-2.ensures.0 c.wide-3.ensures.0 c.typed.ensures c.if-not-typed.false c.scan_run.ensures
+scan_intrinsic-returns t c = intrinsic_found c.requires.2 c.after_fields-a.ensures (omega (arith, c.if-a-eq0)) c.from.ensures c.from-2.ensures c.from-3.ensures c.typed.ensures c.if-not-typed.false c.scan_run.ensures
 
 pub scan_run-loop-next-init : goal.scan_run-loop-next-init
 scan_run-loop-next-init t c = let f = found c.span_end-stop.ensures (omega (arith, c.if-stop-eq0)) in run_start _ _ _ _ _ _ _ f.1

@@ -16,7 +16,7 @@ returns-then-not-pay c = λ e. absurd (true≢false (sym e))
 pub returns : goal.returns
 returns c =
     λ e.
-    let w = c.wide-short.ensures.0 in
+    let w = c.from-short.ensures in
     record {
       there = omega (arith, c.if-n-k);
       plain = λ h. grind arith;

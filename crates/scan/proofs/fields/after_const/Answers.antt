@@ -1,13 +1,15 @@
 use mathlib.Core.Logic.{inl, inr}
-use mathlib.Core.Path.{refl}
+use mathlib.Core.Path.{◌≡◌, refl}
+use Prim.Native.Nat.{◌+◌}
 use Rattle.scan.proofs.FieldLaws.{const_at}
 use native.Mathlib.Omega.{arith}
 use Rattle.scan.proofs.fields.after_const.Goals as goal
 
 pub returns : goal.returns
 returns c =
-    let e = c.width_of-w.ensures.0 in
-    inr (rw e (const_at _ _ _ (omega (arith, c.if-byte-gt15)) (λ q. elim c.if-byte-eq15.branch [ goal.then-byte-eq15+else-s-at-gt1 w ↦ omega (arith, w.if-s-at-gt1.false) | goal.else-byte-eq15 w ↦ absurd (w.if-byte-eq15.false q) ]) (omega (arith, c.if-stop-at, e, c.requires))))
+    let e = rw c.from.ensures at c.const_width-w.ensures in
+    let z : c.args.at + 1 + c.const_width-w.result ≡ c.args.at + (1 + c.const_width-w.result) = omega arith in
+    inr (rw (z, e) (const_at _ _ _ (omega (arith, c.if-byte-gt15)) (λ q. elim c.if-byte-eq15.branch [ goal.then-byte-eq15+else-s-at-gt1 w ↦ omega (arith, w.if-s-at-gt1.false) | goal.else-byte-eq15 w ↦ absurd (w.if-byte-eq15.false q) ]) (omega (arith, c.if-stop-at, e, c.requires))))
 
 pub returns-then-stop-at-lt2 : goal.returns-then-stop-at-lt2
 returns-then-stop-at-lt2 c = inl refl

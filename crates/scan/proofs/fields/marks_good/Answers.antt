@@ -16,12 +16,6 @@ bounds-s-at c = omega (arith, c.requires, c.loop-k-test.true)
 pub returns-then-s-at-gt1 : goal.returns-then-s-at-gt1
 returns-then-s-at-gt1 c = λ e. absurd (true≢false (sym e))
 
-pub overflow_add-k : goal.overflow_add-k
-overflow_add-k c = omega (arith, c.loop-k-test.true)
-
-pub loop-k-smaller : goal.loop-k-smaller
-loop-k-smaller c = omega (arith, c.loop-k-test.true)
-
 pub loop-k-preserved : goal.loop-k-preserved
 loop-k-preserved c = (marks_more c.args.s.now c.args.at c.loop-k.k c.loop-k.invariant.0 (omega (arith, c.if-s-at-gt1)), omega (arith, c.loop-k-test.true))
 

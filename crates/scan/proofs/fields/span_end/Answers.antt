@@ -6,7 +6,7 @@ use Rattle.scan.proofs.fields.span_end.Goals as goal
 
 pub returns : goal.returns
 returns c =
-    let e = c.u32_inside-n.ensures.0 in
+    let e = c.number_inside-n.ensures.0 in
     inr (rw e (span_in _ _ _ (omega (arith, c.if-end-at, c.requires, e)), omega arith, omega (arith, c.if-end-at, c.requires, e)))
 
 pub returns-then-end-at-lt4 : goal.returns-then-end-at-lt4

@@ -2,8 +2,8 @@
 use Rattle.strip.proofs.FieldLaws.{params_none, params_some}
 use Rattle.strip.proofs.fields.params.Goals as goal
 
-pub returns-in-Stopped : goal.returns-in-Stopped
-returns-in-Stopped c = params_none _ _ _ _ c.byte.ensures c.in-Stopped.is
+pub returns-in_err-first : goal.returns-in_err-first
+returns-in_err-first c = rw c.from_residual.ensures (params_none _ _ _ c.in_err-first.ensures)
 
-pub returns-in-At : goal.returns-in-At
-returns-in-At c = params_some _ _ _ _ _ _ _ c.byte.ensures c.in-At.is c.marks.ensures
+pub returns : goal.returns
+returns c = params_some _ _ _ _ _ _ c.in_ok-first.ensures c.marks.ensures

@@ -3,7 +3,7 @@
 use Rattle.strip.proofs.NodeLaws.{Filling, rank}
 use Rattle.strip.proofs.PartLaws.{Through}
 use Rattle.strip.specs.Parts.{item_of}
-use Prim.Native.Nat.{◌+◌, ◌*◌, ◌-◌, ◌≤◌}
+use Prim.Native.Nat.{◌+◌, ◌*◌, ◌-◌}
 use Rattle.strip.proofs.nodes.+nodes.Given as goal
 
 abbrev pub decreases-strip_item : goal.decreases-strip_item
@@ -30,8 +30,5 @@ invariant-strip_items-loop-next l = Filling l.s l.initial.out l.at l.end (item_o
 abbrev pub decreases-strip_items-loop-next : goal.decreases-strip_items-loop-next
 decreases-strip_items-loop-next l = l.end - l.next
 
-abbrev pub invariant-strip_parts-loop-i : goal.invariant-strip_parts-loop-i
-invariant-strip_parts-loop-i l = Through l.depth l.blocks l.s l.end l.parts l.at l.initial.out l.out l.next l.last l.i × (l.i ≤ 8)
-
-abbrev pub decreases-strip_parts-loop-i : goal.decreases-strip_parts-loop-i
-decreases-strip_parts-loop-i l = 8 - l.i
+abbrev pub invariant-strip_parts-loop-part : goal.invariant-strip_parts-loop-part
+invariant-strip_parts-loop-part l = Through l.depth l.blocks l.s l.end l.parts l.at l.initial.out l.out l.next l.last l.part-index
