@@ -1,5 +1,5 @@
 -- The whole of `lower`: from what the reader, the dry walk and the real one ensure. Assumes nothing.
-use Prim.Native.Nat.{ℕ, ◌-◌, ◌/◌, ◌≤◌, ◌<◌}
+use Prim.Native.Nat.{ℕ, min, ◌-◌, ◌/◌, ◌≤◌, ◌<◌}
 use mathlib.Core.Path.{◌≡◌, refl, sym, ap, ◌∙◌}
 use mathlib.Core.Bool.{Bool, true, false}
 use mathlib.Core.List.{List, [], ◌∷◌, ◌++◌, append_assoc}
@@ -20,22 +20,21 @@ use Rattle.definitions.specs.Listing.{front_length, listing_length, records_byte
 use Rattle.definitions.specs.Stage.{labelled, lowered, lower_into, Measured, measure, over, lower_to}
 use Rattle.instr.specs.Values.{front, front_fits, front_written}
 use Rattle.instr.proofs.WholeLaws.{length_listing}
-use Rattle.ir.specs.Verdict.{scripted}
-use Rattle.ir.specs.declared.Refusal.{Refusal}
+use Rattle.std.specs.Prelude.{Ok, Err}
+use Rattle.std.proofs.Math.Nat.{min-le_left, min-le_right}
+use Rattle.std.specs.Prelude as std
+use Rattle.instr.specs.declared.refusals.Refusal.{Refusal}
+use Rattle.instr.specs.declared.refusals.Reason.TheVariants.{Room, TableRoom}
+use Rattle.instr.specs.Refusals.{number_of}
+use Rattle.ir.specs.Verdict.{unit_answer, map_value}
 use Rattle.ir.specs.declared.ReadUnit.{ReadUnit}
-use Rattle.ir.specs.declared.ReadUnit.TheVariants.{Reads, Fails}
 use Rattle.ir.specs.declared.Class.TheVariants.{Statement}
 use Rattle.ir.proofs.UnitPlaces.{unit_at}
 use Rattle.steps.specs.Running.{Cells, run}
-use Rattle.steps.specs.Walked.{Accepted, fill_code, ran, target_of, span_of, Did}
+use Rattle.steps.specs.Walked.{Accepted, after, fill_code, ran, target_of, span_of, Did}
 use Rattle.scan.specs.Scanned.{Fits}
 use Rattle.assemble.specs.Whole.{unit_code, zeros, Lowers, answer, measuring}
-use Rattle.steps.specs.declared.Counters.{Counters}
-use Rattle.steps.specs.declared.Target.TheVariants.{Nowhere}
-use Rattle.steps.specs.declared.Walk.{Walk}
-use Rattle.steps.specs.declared.Walk.TheVariants.{Going, Stopped}
-use Rattle.assemble.specs.declared.Lowered.{Lowered}
-use Rattle.assemble.specs.declared.Lowered.TheVariants.{Done, Refused}
+use Rattle.steps.specs.declared.counters.Counters.{Counters}
 use Rattle.walk.proofs.StmtCode.{block_code}
 use Rattle.walk.proofs.MidLaws.{code_is}
 use Rattle.laws.proofs.Inversion.{refusal_not_made}
@@ -47,21 +46,21 @@ use Rattle.assemble.proofs.WholeLaws.{Totals, unit_stopped, unit_totals, unit_wr
 abbrev room : (bytes words : ℕ) → State → Result State
 room a b l = checked (leb (listing_length (length l.instrs)) a) 20 0 0 (checked (leb (length l.marks) b) 21 0 0 (made l))
 
-pub read_refused : (s : List ℕ) (a b : ℕ) (r : ReadUnit) (q : Refusal) (o m : List ℕ) → r ≡ Fails q → r ≡ scripted (parse_unit s) → answer (Refused q) o m ≡ lower_to (lower_into s a b) o m
-unfolding answer lower_to lower_into lowered onward scripted
-read_refused s a b r q o m d e = go (parse_unit s) (sym d ∙ e)
+pub read_accepted : (s : List ℕ) (u : ReadUnit) → unit_answer (Ok u) ≡ map_value (λ script. script.returns) (parse_unit s) → Accepted (parse_unit s)
+read_accepted s u e = go (parse_unit s) e
   where
-    go : (x : Answer Script) → Fails q ≡ scripted x → answer (Refused q) o m ≡ lower_to (onward (lowered x) (room a b)) o m
-    go (ok u n) f = cc
-    go (refused n p x) f = cc
+    go : (x : Answer Script) → unit_answer (Ok u) ≡ map_value (λ script. script.returns) x → Accepted x
+    go (ok v k) f = (v, k, refl)
+    go (refused k p x) f = absurd (cc)
 
-pub read_accepted : (s : List ℕ) (r : ReadUnit) (v n : ℕ) → r ≡ Reads v n → r ≡ scripted (parse_unit s) → Accepted (parse_unit s)
-unfolding scripted
-read_accepted s r v n d e = go (parse_unit s) (sym d ∙ e)
+pub read_refused : (s : List ℕ) (q : Refusal) → unit_answer (Err q) ≡ map_value (λ script. script.returns) (parse_unit s) → measuring (Err q) ≡ measure s
+unfolding measuring measure lowered onward
+read_refused s q e = go (parse_unit s) e
   where
-    go : (x : Answer Script) → Reads v n ≡ scripted x → Accepted x
-    go (ok u k) f = (u, k, refl)
-    go (refused k p x) f = let z : ◌≡◌ {A = ℕ} 0 1 = cc in absurd (omega arith)
+    go : (x : Answer Script) → unit_answer (Err q) ≡ map_value (λ script. script.returns) x →
+        measuring (Err q) ≡ onward (lowered x) (λ l. made (record { offset = l.offset; labels = length l.marks; count = length l.instrs }))
+    go (ok v k) f = absurd (cc)
+    go (refused k p x) f = cc
 
 -- 2. A unit is a run of statements
 
@@ -79,31 +78,14 @@ unit_here s acc =
       code = code_is (λ u. Lower.code_of u) (parse_unit s) acc.0 acc.1 acc.2 ∙ ap (λ u. Lower.code_of u) k.tree ∙ sym (block_code 200 s (length s) 10 (outside (get_or s 5 0)) k.body (length s) k.run.reads);
     }
 
-abbrev zero_walk : Walk
-zero_walk = Going (record { offset = 0; labels = 0; count = 0 })
-
-pub real_did : (s : List ℕ) (returns : ℕ) (r : Walk) (o m o' m' : List ℕ) → Accepted (parse_unit s) → returns ≡ get_or s 5 0 →
-    Did (fill_code Statement 200 s (length s) 10 (span_of (record { break_target = Nowhere; continue_target = Nowhere; returns = returns }))) zero_walk o m r o' m' → ran r o' m' ≡ run (unit_code s) (zeros o m)
+pub walked_as : (s : List ℕ) (returns : ℕ) {A : Type 0} (r : std.Result A Refusal) (c : Counters) (o m o' m' : List ℕ) → Accepted (parse_unit s) → returns ≡ get_or s 5 0 →
+    Did (fill_code Statement 200 s (length s) 10 (span_of (record { break_target = std.None; continue_target = std.None; returns = returns }))) (record { offset = 0; labels = 0; count = 0 }) o m r c o' m' →
+    ran (after r c) o' m' ≡ run (unit_code s) (zeros o m)
 unfolding ran onward span_of target_of
-real_did s returns r o m o' m' acc e d =
+walked_as s returns r c o m o' m' acc e d =
     d.same ∙ ap (λ n. run (fill_code Statement 200 s (length s) 10 (outside n)) (zeros o m)) e ∙ ap (λ c. run c (zeros o m)) (sym (unit_here s acc).code)
 
--- 3. A dry walk writes nothing
-
-none_left : (l : List ℕ) → length l ≡ 0 → l ≡ []
-none_left [] e = refl
-none_left (x ∷ l) e = absurd (omega (arith, e))
-
-pub dry_did : (code : Code) (r : Walk) (o' m' : List ℕ) → length o' ≡ 0 → length m' ≡ 0 → ran r o' m' ≡ run code (zeros [] []) → (ran r [] [] ≡ run code (zeros [] [])) × (o' ≡ []) × (m' ≡ [])
-dry_did code r o' m' u v e =
-    let a = none_left o' u in
-    let b = none_left m' v in
-    (rw (a, b) at e, a, b)
-
-pub put_none : (l p : List ℕ) → p ≡ [] → put_mid 0 0 l p ≡ l
-put_none l p e = rw e (put_same 0 0 l)
-
--- 4. The listing
+-- 3. The listing
 
 over_is : (w b : List ℕ) (n : ℕ) → length w ≡ n → over w b ≡ w ++ drop n b
 unfolding over
@@ -130,7 +112,7 @@ front_over n is o o₂ e few h q =
     front_is_law n o₂ (omega (arith, e, few)) long ∙ ap {B = List ℕ} (λ k. front k ++ drop front_length o₂) e ∙ ap (λ y. F ++ y) d ∙ sym (append_assoc F R D)
     ∙ ap (λ y. y ++ D) (sym (listing_is is)) ∙ sym (over_is (listing_bytes is) o _ (length_listing is))
 
--- 5. What `lower` answers
+-- 4. What `lower` answers
 
 refused_is : (s : List ℕ) (a b n p x : ℕ) → labelled s ≡ refusal n p x → lower_into s a b ≡ refusal n p x
 unfolding lower_into onward
@@ -140,12 +122,12 @@ room_is : (s : List ℕ) (a b : ℕ) (t : State) → labelled s ≡ made t → l
 unfolding lower_into onward
 room_is s a b t e = ap {B = Result State} (λ y. onward y (room a b)) e
 
-stopped_answer : (n : Refusal) (x : Result State) (o m : List ℕ) → x ≡ refusal n.number n.place n.extra → answer (Refused n) o m ≡ lower_to x o m
+stopped_answer : (n : Refusal) (x : Result State) (o m : List ℕ) → x ≡ refusal (number_of n.reason) n.place n.extra → answer (Err n) o m ≡ lower_to x o m
 unfolding answer lower_to
 stopped_answer n x o m e = rw e
 
 done_answer : (d : Counters) (t : State) (x : Result State) (o m o₃ m₂ : List ℕ) → x ≡ made t → d.offset ≡ t.offset → d.labels ≡ length t.marks → d.count ≡ length t.instrs →
-    o₃ ≡ over (listing_bytes t.instrs) o → m₂ ≡ over t.marks m → answer (Done d) o₃ m₂ ≡ lower_to x o m
+    o₃ ≡ over (listing_bytes t.instrs) o → m₂ ≡ over t.marks m → answer (Ok d) o₃ m₂ ≡ lower_to x o m
 unfolding answer lower_to
 done_answer d t x o m o₃ m₂ e a b c f g = rw (e, a, b, c, f, g)
 
@@ -154,17 +136,17 @@ module _ (s : List ℕ) (acc : Accepted (parse_unit s)) where
   same_code : unit_code s ≡ Lower.code_of acc.0
   same_code = code_is (λ u. Lower.code_of u) (parse_unit s) acc.0 acc.1 acc.2
 
-  halted_is : (z : Walk) (n : Refusal) (o₂ m₂ o₃ m₃ : List ℕ) → z ≡ Stopped n → ran z o₂ m₂ ≡ run (unit_code s) (zeros o₃ m₃) → labelled s ≡ refusal n.number n.place n.extra
+  halted_is : (q : Refusal) (o₂ m₂ o₃ m₃ : List ℕ) → ran (Err q) o₂ m₂ ≡ run (unit_code s) (zeros o₃ m₃) → labelled s ≡ refusal (number_of q.reason) q.place q.extra
   unfolding ran
-  halted_is z n o₂ m₂ o₃ m₃ e w =
-      unit_stopped s acc.0 acc.1 acc.2 o₃ m₃ n.number n.place n.extra (ap (λ c. run c (zeros o₃ m₃)) (sym same_code) ∙ sym w ∙ ap (λ y. ran y o₂ m₂) e)
+  halted_is q o₂ m₂ o₃ m₃ w =
+      unit_stopped s acc.0 acc.1 acc.2 o₃ m₃ (number_of q.reason) q.place q.extra (ap (λ c. run c (zeros o₃ m₃)) (sym same_code) ∙ sym w)
 
   abbrev cells_of : Counters → (out marks : List ℕ) → Cells
   cells_of k o₂ m₂ = record { offset = k.offset; labels = k.labels; count = k.count; out = o₂; marks = m₂ }
 
-  runs_to : (z : Walk) (k : Counters) (o₂ m₂ o₃ m₃ : List ℕ) → z ≡ Going k → ran z o₂ m₂ ≡ run (unit_code s) (zeros o₃ m₃) → run (Lower.code_of acc.0) (zeros o₃ m₃) ≡ made (cells_of k o₂ m₂)
+  runs_to : (k : Counters) (o₂ m₂ o₃ m₃ : List ℕ) → ran (Ok k) o₂ m₂ ≡ run (unit_code s) (zeros o₃ m₃) → run (Lower.code_of acc.0) (zeros o₃ m₃) ≡ made (cells_of k o₂ m₂)
   unfolding ran
-  runs_to z k o₂ m₂ o₃ m₃ e w = ap (λ c. run c (zeros o₃ m₃)) (sym same_code) ∙ sym w ∙ ap (λ y. ran y o₂ m₂) e
+  runs_to k o₂ m₂ o₃ m₃ w = ap (λ c. run c (zeros o₃ m₃)) (sym same_code) ∙ sym w
 
 -- nothing refuses the unit, and the buffers have room: taken apart, and put together
 passed : {A : Type 0} (b : Bool) (n p x : ℕ) (r : Result A) {a : A} → checked b n p x r ≡ made a → (b ≡ true) × (r ≡ made a)
@@ -194,23 +176,25 @@ lowers_accepted s a b f = go (parse_unit s) refl (lowers_is s a b f.0 f.1).0
     go (refused n p x) i e = refusal_not_made e
 
 -- what a scan found to fit so much room is such a unit
-pub fits_lowers : (s : List ℕ) (a b records labels : ℕ) → front_length ≤ a → records ≡ (a - front_length) / record_length → labels ≤ b → labels ≤ 65536 → Fits s records labels → Lowers s a b
+pub fits_lowers : (s : List ℕ) (a b left most : ℕ) → (front_length ≤ a) × (left ≡ a - front_length) → most ≡ min b 65536 → Fits s (left / record_length) most → Lowers s a b
 unfolding lowered label_limit
-fits_lowers s a b records labels h e l m f =
-    let r = f.tame.runs start (omega (arith, m)) in
-    (r.0, lowers_of s a b r.0 (rw (f.reads, lowered) r.1) (omega (arith, r.2, h, e)) (omega (arith, r.3, l)))
+fits_lowers s a b left most h m f =
+    let within : most ≤ 65536 = rw m (min-le_right b 65536) in
+    let words : most ≤ b = rw m (min-le_left b 65536) in
+    let r = f.tame.runs start (omega (arith, within)) in
+    (r.0, lowers_of s a b r.0 (rw (f.reads, lowered) r.1) (omega (arith, r.2, h.0, h.1)) (omega (arith, r.3, words)))
 
 -- the walk over a unit that is lowered into these buffers
-module _ (s o m : List ℕ) (f : Lowers s (length o) (length m)) (z : Walk) (o₂ m₂ : List ℕ) (w : ran z o₂ m₂ ≡ run (unit_code s) (zeros o m)) where
+module _ (s o m : List ℕ) (f : Lowers s (length o) (length m)) (o₂ m₂ : List ℕ) where
   acc : Accepted (parse_unit s)
   acc = lowers_accepted s (length o) (length m) f
 
-  pub fill_never : {X : Type 0} (n : Refusal) → z ≡ Stopped n → X
-  fill_never n q = refusal_not_made (sym (sym (lowers_is s (length o) (length m) f.0 f.1).0 ∙ halted_is s acc z n o₂ m₂ o m q w))
+  pub fill_never : (q : Refusal) → ran (Err q) o₂ m₂ ≡ run (unit_code s) (zeros o m) → {X : Type 0} → X
+  fill_never q w = refusal_not_made (sym (sym (lowers_is s (length o) (length m) f.0 f.1).0 ∙ halted_is s acc q o₂ m₂ o m w))
 
-  pub fill_done : (d : Counters) (o₃ : List ℕ) → z ≡ Going d → o₃ ≡ front_written d.count o₂ → answer (Done d) o₃ m₂ ≡ lower_to (lower_into s (length o) (length m)) o m
-  fill_done d o₃ q e =
-      let x = runs_to s acc z d o₂ m₂ o m q w in
+  pub fill_done : (d : Counters) (o₃ : List ℕ) → ran (Ok d) o₂ m₂ ≡ run (unit_code s) (zeros o m) → o₃ ≡ front_written d.count o₂ → answer (Ok d) o₃ m₂ ≡ lower_to (lower_into s (length o) (length m)) o m
+  fill_done d o₃ w e =
+      let x = runs_to s acc d o₂ m₂ o m w in
       let t = unit_totals s acc.0 acc.1 acc.2 o m (cells_of s acc d o₂ m₂) x in
       let k = lowers_is s (length o) (length m) f.0 f.1 in
       let u : f.0 ≡ t.state = made_is (sym k.0 ∙ t.whole) in
@@ -219,43 +203,7 @@ module _ (s o m : List ℕ) (f : Lowers s (length o) (length m)) (z : Walk) (o�
       let n : o₃ ≡ over (listing_bytes t.state.instrs) o = e ∙ front_over d.count t.state.instrs o o₂ t.count t.few g y.out in
       done_answer d t.state (lower_into s (length o) (length m)) o m o₃ m₂ (rw u at f.1) t.offset t.labels t.count n (y.marks ∙ sym (over_is t.state.marks m _ refl))
 
-module _ (s o m o₁ m₁ : List ℕ) (r : Walk) (acc : Accepted (parse_unit s)) (dry : (ran r [] [] ≡ run (unit_code s) (zeros [] [])) × (o₁ ≡ o) × (m₁ ≡ m)) where
-  abbrev the_answer : Result State
-  the_answer = lower_into s (length o) (length m)
-
-  pub answer_stopped : (n : Refusal) → r ≡ Stopped n → answer (Refused n) o₁ m₁ ≡ lower_to the_answer o m
-  answer_stopped n e = rw (dry.1, dry.2) (stopped_answer n the_answer o m (refused_is s (length o) (length m) _ _ _ (halted_is s acc r n [] [] [] [] e dry.0)))
-
-  -- the buffers are as they were before the dry walk
-  pub answer_kept : (a : Lowered) (o₂ m₂ : List ℕ) → answer a o₂ m₂ ≡ lower_to (lower_into s (length o₁) (length m₁)) o₁ m₁ → answer a o₂ m₂ ≡ lower_to the_answer o m
-  answer_kept a o₂ m₂ e = rw (dry.1, dry.2) at e
-
-  module _ (k : Counters) (e : r ≡ Going k) where
-    totals : Totals s acc.0 acc.1 acc.2 (cells_of s acc k [] [])
-    totals = unit_totals s acc.0 acc.1 acc.2 [] [] (cells_of s acc k [] []) (runs_to s acc r k [] [] [] [] e dry.0)
-
-    pub answer_20 : length o₁ < listing_length k.count → answer (Refused (record { number = 20; place = 0; extra = 0 })) o₁ m₁ ≡ lower_to the_answer o m
-    unfolding checked
-    answer_20 h =
-        let t = totals in
-        let g : length o < listing_length (length t.state.instrs) = omega (arith, h, ap length dry.1, t.count) in
-        rw (dry.1, dry.2) (stopped_answer _ the_answer o m (room_is s (length o) (length m) t.state t.whole ∙ rw (lt-leb (listing_length (length t.state.instrs)) (length o) g)))
-
-    pub answer_21 : listing_length k.count ≤ length o₁ → length m₁ < k.labels → answer (Refused (record { number = 21; place = 0; extra = 0 })) o₁ m₁ ≡ lower_to the_answer o m
-    unfolding checked
-    answer_21 h l =
-        let t = totals in
-        let g : listing_length (length t.state.instrs) ≤ length o = omega (arith, h, ap length dry.1, t.count) in
-        let f : length m < length t.state.marks = omega (arith, l, ap length dry.2, t.labels) in
-        rw (dry.1, dry.2) (stopped_answer _ the_answer o m (room_is s (length o) (length m) t.state t.whole ∙ rw (le-leb (listing_length (length t.state.instrs)) (length o) g, lt-leb (length t.state.marks) (length m) f)))
-
-    -- with neither refusal
-    pub dry_lowers : listing_length k.count ≤ length o₁ → k.labels ≤ length m₁ → Lowers s (length o₁) (length m₁)
-    dry_lowers h l =
-        let t = totals in
-        (t.state, lowers_of s (length o₁) (length m₁) t.state t.whole (omega (arith, h, t.count)) (omega (arith, l, t.labels)))
-
--- 6. What `measure` answers
+-- 5. What `measure` answers
 
 measured_as : {a b c x y z : ℕ} → a ≡ x → b ≡ y → c ≡ z → ◌≡◌ {A = Result Measured} (made (record { offset = a; labels = b; count = c })) (made (record { offset = x; labels = y; count = z }))
 measured_as e f g = rw (e, f, g)
@@ -264,21 +212,56 @@ measured_is : (s : List ℕ) (t : State) → labelled s ≡ made t → measure s
 unfolding measure onward
 measured_is s t e = rw (e, onward)
 
-module _ (s : List ℕ) (acc : Accepted (parse_unit s)) (z : Walk) (o₂ m₂ o₃ m₃ : List ℕ) (w : ran z o₂ m₂ ≡ run (unit_code s) (zeros o₃ m₃)) where
-  pub measure_stopped : (n : Refusal) → z ≡ Stopped n → measuring (Refused n) ≡ measure s
+module _ (s : List ℕ) (acc : Accepted (parse_unit s)) (o₂ m₂ o₃ m₃ : List ℕ) where
+  pub measure_stopped : (q : Refusal) → ran (Err q) o₂ m₂ ≡ run (unit_code s) (zeros o₃ m₃) → measuring (Err q) ≡ measure s
   unfolding measuring measure onward
-  measure_stopped n e = rw (halted_is s acc z n o₂ m₂ o₃ m₃ e w, onward)
+  measure_stopped q w = rw (halted_is s acc q o₂ m₂ o₃ m₃ w, onward)
 
-  pub measure_done : (k : Counters) → z ≡ Going k → measuring (Done k) ≡ measure s
+  pub measure_done : (k : Counters) → ran (Ok k) o₂ m₂ ≡ run (unit_code s) (zeros o₃ m₃) → measuring (Ok k) ≡ measure s
   unfolding measuring
-  measure_done k e =
-      let t = unit_totals s acc.0 acc.1 acc.2 o₃ m₃ (cells_of s acc k o₂ m₂) (runs_to s acc z k o₂ m₂ o₃ m₃ e w) in
+  measure_done k w =
+      let t = unit_totals s acc.0 acc.1 acc.2 o₃ m₃ (cells_of s acc k o₂ m₂) (runs_to s acc k o₂ m₂ o₃ m₃ w) in
       measured_as t.offset t.labels t.count ∙ sym (measured_is s t.state t.whole)
 
-pub measure_refused : (s : List ℕ) (r : ReadUnit) (q : Refusal) → r ≡ Fails q → r ≡ scripted (parse_unit s) → measuring (Refused q) ≡ measure s
-unfolding measuring measure lowered onward scripted
-measure_refused s r q d e = go (parse_unit s) (sym d ∙ e)
-  where
-    go : (x : Answer Script) → Fails q ≡ scripted x → measuring (Refused q) ≡ onward (lowered x) (λ l. made (record { offset = l.offset; labels = length l.marks; count = length l.instrs }))
-    go (ok u n) f = cc
-    go (refused n p x) f = cc
+pub measures : (s : List ℕ) (r : std.Result Counters Refusal) (o₂ m₂ o₃ m₃ : List ℕ) → Accepted (parse_unit s) → ran r o₂ m₂ ≡ run (unit_code s) (zeros o₃ m₃) → measuring r ≡ measure s
+measures s (Ok k) o₂ m₂ o₃ m₃ acc w = measure_done s acc o₂ m₂ o₃ m₃ k w
+measures s (Err q) o₂ m₂ o₃ m₃ acc w = measure_stopped s acc o₂ m₂ o₃ m₃ q w
+
+-- 6. What a measure says of lowering
+
+module _ (s o m : List ℕ) where
+  -- the state that was measured
+  state_of : (c : Counters) → measuring (Ok c) ≡ measure s → (t : State) × (labelled s ≡ made t) × (c.labels ≡ length t.marks) × (c.count ≡ length t.instrs)
+  unfolding measuring measure
+  state_of c e =
+      let k = onward_is (labelled s) (λ t. made (record { offset = t.offset; labels = length t.marks; count = length t.instrs })) (sym e) in
+      let i = made_is k.2 in
+      (k.0, k.1, sym (ap (λ (x : Measured). x.labels) i), sym (ap (λ (x : Measured). x.count) i))
+
+  pub lower_refused : (q : Refusal) → measuring (Err q) ≡ measure s → answer (Err q) o m ≡ lower_to (lower_into s (length o) (length m)) o m
+  unfolding measuring measure onward
+  lower_refused q e = stopped_answer q (lower_into s (length o) (length m)) o m (refused_is s (length o) (length m) _ _ _ (go (labelled s) refl e))
+    where
+      go : (x : Result State) → labelled s ≡ x → measuring (Err q) ≡ onward x (λ t. made (record { offset = t.offset; labels = length t.marks; count = length t.instrs })) → labelled s ≡ refusal (number_of q.reason) q.place q.extra
+      go (made t) i f = refusal_not_made f
+      go (refusal n p x) i f = i ∙ cc
+
+  pub lower_room : (c : Counters) → measuring (Ok c) ≡ measure s → length o < listing_length c.count → answer (Err (record { reason = Room; place = 0; extra = 0 })) o m ≡ lower_to (lower_into s (length o) (length m)) o m
+  unfolding checked
+  lower_room c e h =
+      let t = state_of c e in
+      let g : length o < listing_length (length t.0.instrs) = omega (arith, h, t.3) in
+      stopped_answer _ (lower_into s (length o) (length m)) o m (room_is s (length o) (length m) t.0 t.1 ∙ rw (lt-leb (listing_length (length t.0.instrs)) (length o) g))
+
+  pub lower_table : (c : Counters) → measuring (Ok c) ≡ measure s → listing_length c.count ≤ length o → length m < c.labels → answer (Err (record { reason = TableRoom; place = 0; extra = 0 })) o m ≡ lower_to (lower_into s (length o) (length m)) o m
+  unfolding checked
+  lower_table c e h l =
+      let t = state_of c e in
+      let g : listing_length (length t.0.instrs) ≤ length o = omega (arith, h, t.3) in
+      let f : length m < length t.0.marks = omega (arith, l, t.2) in
+      stopped_answer _ (lower_into s (length o) (length m)) o m (room_is s (length o) (length m) t.0 t.1 ∙ rw (le-leb (listing_length (length t.0.instrs)) (length o) g, lt-leb (length t.0.marks) (length m) f))
+
+  pub lower_fits : (c : Counters) → measuring (Ok c) ≡ measure s → listing_length c.count ≤ length o → c.labels ≤ length m → Lowers s (length o) (length m)
+  lower_fits c e h l =
+      let t = state_of c e in
+      (t.0, lowers_of s (length o) (length m) t.0 t.1 (omega (arith, h, t.3)) (omega (arith, l, t.2)))

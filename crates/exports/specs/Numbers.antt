@@ -1,13 +1,15 @@
 -- Answers as a Bool and three numbers: what was made, or number, place and extra of the refusal.
-use Rattle.std.specs.Prelude.{ℕ, Bool, true, false, List, length}
+use Rattle.std.specs.Prelude as std
+use Rattle.std.specs.Prelude.{ℕ, Bool, true, false, List, length, Ok, Err}
 use Rattle.definitions.specs.Answer.{Result, made, refusal}
 use Rattle.definitions.specs.Instr.{Instr, record_length}
 use Rattle.definitions.specs.Listing.{listing_length}
 use Rattle.definitions.specs.Stage.{Measured, Lowering, listed, turned, Resolving, coded, unresolved}
 use Rattle.definitions.specs.Strip.{Stripping, unstripped}
 use Rattle.definitions.specs.Strip as stripping
-use Rattle.resolve.specs.declared.Resolved.{Resolved}
-use Rattle.resolve.specs.declared.Resolved.TheVariants.{Done, Refused}
+use Rattle.instr.specs.declared.refusals.Refusal.{Refusal}
+use Rattle.instr.specs.Refusals.{number_of}
+use Rattle.exports.specs.declared.Made.{Made}
 
 pub record Numbers : Type 0 where
   pub done : Bool
@@ -17,6 +19,11 @@ pub record Numbers : Type 0 where
 
 abbrev pub numbers : Bool → (first second third : ℕ) → Numbers
 numbers b x y z = record { done = b; first = x; second = y; third = z }
+
+-- what the code makes of its answers
+unfoldable pub given : std.Result Made Refusal → Numbers
+given (Ok m) = numbers true m.first m.second m.third
+given (Err q) = numbers false (number_of q.reason) q.place q.extra
 
 -- records, labels, total size
 unfoldable pub measured : Result Measured → Numbers
@@ -37,9 +44,9 @@ marks_of (listed size labels count o m) = m
 marks_of (turned n p x o m) = m
 
 -- records, by the code's answer and by the definition's
-unfoldable pub records_of : Resolved → Numbers
-records_of (Done n) = numbers true n 0 0
-records_of (Refused q) = numbers false q.number q.place q.extra
+unfoldable pub records_of : std.Result ℕ Refusal → Numbers
+records_of (Ok n) = numbers true n 0 0
+records_of (Err q) = numbers false (number_of q.reason) q.place q.extra
 
 unfoldable pub resolved : Resolving → Numbers
 resolved (coded count o) = numbers true count 0 0

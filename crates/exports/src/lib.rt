@@ -9,56 +9,84 @@ ghost use Rattle.definitions.specs.Stage.{measure, lower_into, lower_to, resolve
 ghost use Rattle.definitions.specs.Stored.{store, restore};
 ghost use Rattle.definitions.specs.Strip.{strip_into, strip_to};
 ghost use Rattle.assemble.specs.Whole.{measuring};
-ghost use Rattle.exports.specs.Numbers.{numbers, measured, lowered, out_of, marks_of, records_of, resolved, code_of, checked, viewed, stripped, stripped_of};
+ghost use Rattle.exports.specs.Numbers.{numbers, given, measured, lowered, out_of, marks_of, records_of, resolved, code_of, checked, viewed, stripped, stripped_of};
 
-use assemble::Lowered;
 use instr::listings;
-use instr::listings::{Checked, Viewed};
 use instr::records::Record;
-use resolve::Resolved;
-use strip::Stripped;
+use instr::refusals::Refusal;
+use steps::counters::Counters;
 
-// Writes an answer's three numbers through the pointers, and hands its Bool on.
+// The three numbers of what was made; one that is not named is 0.
+#[derive(Clone, Copy, Debug, PartialEq, Eq)]
+struct Made {
+    first: usize,
+    second: usize,
+    third: usize,
+}
+
+// Writes an answer's three numbers through the pointers of C, which are three, and says whether something was made.
+#[tactic(auto, unfolding(crate::specs::Numbers::given))]
 fn give(
-    done: bool,
-    a: usize,
-    b: usize,
-    c: usize,
+    answer: Result<Made, Refusal>,
     first: &mut usize,
     second: &mut usize,
     third: &mut usize,
 ) -> bool
-    ensures { numbers result first.new second.new third.new ≡ numbers done a b c }
+    ensures { numbers result first.new second.new third.new ≡ given answer }
 {
-    *first = a;
-    *second = b;
-    *third = c;
-    done
+    match answer {
+        Ok(made) => {
+            *first = made.first;
+            *second = made.second;
+            *third = made.third;
+            true
+        }
+        Err(q) => {
+            *first = q.reason.number();
+            *second = q.place;
+            *third = q.extra;
+            false
+        }
+    }
 }
 
 // Records, labels and total size of a unit.
-fn totals(answer: Lowered, first: &mut usize, second: &mut usize, third: &mut usize) -> bool
-    ensures { numbers result first.new second.new third.new ≡ measured (measuring answer) }
+#[tactic(auto, unfolding(crate::specs::Numbers::given, crate::specs::Numbers::measured, assemble::specs::Whole::measuring))]
+fn totals(answer: Result<Counters, Refusal>) -> Result<Made, Refusal>
+    ensures { given result ≡ measured (measuring answer) }
 {
-    match answer {
-        Lowered::Done(c) => {
-            let count = c.count as usize;
-            let labels = c.labels as usize;
-            let size = c.offset as usize;
-            give(true, count, labels, size, first, second, third)
-        }
-        Lowered::Refused(q) => give(false, q.number, q.place, q.extra, first, second, third),
-    }
+    let c = answer?;
+    Ok(Made {
+        first: c.count as usize,
+        second: c.labels as usize,
+        third: c.offset as usize,
+    })
 }
 
-// Records of a listing.
-fn records(answer: Resolved, first: &mut usize, second: &mut usize, third: &mut usize) -> bool
-    ensures { numbers result first.new second.new third.new ≡ records_of answer }
+// How many there are: the records of a listing, the bytes of a unit.
+#[tactic(auto, unfolding(crate::specs::Numbers::given, crate::specs::Numbers::records_of))]
+fn count(answer: Result<usize, Refusal>) -> Result<Made, Refusal>
+    ensures { given result ≡ records_of answer }
 {
-    match answer {
-        Resolved::Done { count } => give(true, count, 0, 0, first, second, third),
-        Resolved::Refused(q) => give(false, q.number, q.place, q.extra, first, second, third),
-    }
+    let first = answer?;
+    Ok(Made {
+        first,
+        second: 0,
+        third: 0,
+    })
+}
+
+// Where record n of a listing begins, and its length.
+#[tactic(auto, using(crate::proofs::Answers::viewed_made, crate::proofs::Answers::viewed_refused, crate::proofs::Answers::viewed_fits), unfolding(crate::specs::Numbers::given))]
+fn place(listing: &[u8], n: usize) -> Result<Made, Refusal>
+    ensures { given result ≡ viewed n (view listing.now n) }
+{
+    listings::view_check(listing, n)?;
+    Ok(Made {
+        first: listings::FRONT + Record::LENGTH * n,
+        second: Record::LENGTH,
+        third: 0,
+    })
 }
 
 // What a unit takes: records, labels, total size.
@@ -71,11 +99,11 @@ pub extern "C" fn delzhomo_measure(
 ) -> bool
     ensures { numbers result first.new second.new third.new ≡ measured (measure unit.now) }
 {
-    let answer = assemble::measure(unit);
-    totals(answer, first, second, third)
+    give(totals(assemble::measure(unit)), first, second, third)
 }
 
 // The labelled listing of a unit and its label table: records, labels, total size.
+#[tactic(auto, using(crate::proofs::Answers::lowered_as))]
 #[unsafe(no_mangle)]
 pub extern "C" fn delzhomo_lower(
     unit: &[u8],
@@ -89,11 +117,16 @@ pub extern "C" fn delzhomo_lower(
     ensures out_after { out.new ≡ out_of (lower_to (lower_into unit.now (length out.old) (length marks.old)) out.old marks.old) }
     ensures marks_after { marks.new ≡ marks_of (lower_to (lower_into unit.now (length out.old) (length marks.old)) out.old marks.old) }
 {
-    let answer = assemble::lower(unit, out, marks);
-    totals(answer, first, second, third)
+    give(
+        totals(assemble::lower(unit, out, marks)),
+        first,
+        second,
+        third,
+    )
 }
 
 // The listing with distances in place of its labels: records.
+#[tactic(auto, using(crate::proofs::Answers::resolved_as))]
 #[unsafe(no_mangle)]
 pub extern "C" fn delzhomo_resolve(
     listing: &[u8],
@@ -106,11 +139,16 @@ pub extern "C" fn delzhomo_resolve(
     ensures third_after { numbers result first.new second.new third.new ≡ resolved (resolve_to (resolve listing.now marks.now (length out.old)) out.old) }
     ensures out_after { out.new ≡ code_of (resolve_to (resolve listing.now marks.now (length out.old)) out.old) }
 {
-    let answer = resolve::resolve(listing, marks, out);
-    records(answer, first, second, third)
+    give(
+        count(resolve::resolve(listing, marks, out)),
+        first,
+        second,
+        third,
+    )
 }
 
 // Whether a slice is a listing: its records.
+#[tactic(auto, using(crate::proofs::Answers::checked_as))]
 #[unsafe(no_mangle)]
 pub extern "C" fn delzhomo_check(
     listing: &[u8],
@@ -120,11 +158,12 @@ pub extern "C" fn delzhomo_check(
 ) -> bool
     ensures { numbers result first.new second.new third.new ≡ checked (read_listing listing.now) }
 {
-    let answer = listings::check_listing(listing);
-    match answer {
-        Checked::Good { count } => give(true, count, 0, 0, first, second, third),
-        Checked::Bad => give(false, 30, 0, 0, first, second, third),
-    }
+    give(
+        count(listings::check_listing(listing)),
+        first,
+        second,
+        third,
+    )
 }
 
 // Where record n of a listing begins, and its length.
@@ -138,18 +177,11 @@ pub extern "C" fn delzhomo_view(
 ) -> bool
     ensures { numbers result first.new second.new third.new ≡ viewed n (view listing.now n) }
 {
-    let answer = listings::view_check(listing, n);
-    match answer {
-        Viewed::Seen => {
-            let start = listings::FRONT + Record::LENGTH * n;
-            give(true, start, Record::LENGTH, 0, first, second, third)
-        }
-        Viewed::Bad => give(false, 30, 0, 0, first, second, third),
-        Viewed::Past { number } => give(false, 22, number, 0, first, second, third),
-    }
+    give(place(listing, n), first, second, third)
 }
 
 // The unit without its pool indices, lines and constants: the bytes written.
+#[tactic(auto, using(crate::proofs::Answers::stripped_as))]
 #[unsafe(no_mangle)]
 pub extern "C" fn delzhomo_strip(
     unit: &[u8],
@@ -161,14 +193,11 @@ pub extern "C" fn delzhomo_strip(
     ensures third_after { numbers result first.new second.new third.new ≡ stripped (strip_to (strip_into unit.now (length out.old)) out.old) }
     ensures out_after { out.new ≡ stripped_of (strip_to (strip_into unit.now (length out.old)) out.old) }
 {
-    let answer = strip::strip(unit, out);
-    match answer {
-        Stripped::Done { count } => give(true, count, 0, 0, first, second, third),
-        Stripped::Refused(q) => give(false, q.number, q.place, q.extra, first, second, third),
-    }
+    give(count(strip::strip(unit, out)), first, second, third)
 }
 
 // What the loader stores of a resolved listing: records.
+#[tactic(auto, using(crate::proofs::Answers::resolved_as))]
 #[unsafe(no_mangle)]
 pub extern "C" fn delzhomo_store(
     listing: &[u8],
@@ -180,11 +209,11 @@ pub extern "C" fn delzhomo_store(
     ensures third_after { numbers result first.new second.new third.new ≡ resolved (resolve_to (store listing.now (length out.old)) out.old) }
     ensures out_after { out.new ≡ code_of (resolve_to (store listing.now (length out.old)) out.old) }
 {
-    let answer = store::store(listing, out);
-    records(answer, first, second, third)
+    give(count(store::store(listing, out)), first, second, third)
 }
 
 // The resolved listing of what the loader stores: records.
+#[tactic(auto, using(crate::proofs::Answers::resolved_as))]
 #[unsafe(no_mangle)]
 pub extern "C" fn delzhomo_restore(
     listing: &[u8],
@@ -196,6 +225,5 @@ pub extern "C" fn delzhomo_restore(
     ensures third_after { numbers result first.new second.new third.new ≡ resolved (resolve_to (restore listing.now (length out.old)) out.old) }
     ensures out_after { out.new ≡ code_of (resolve_to (restore listing.now (length out.old)) out.old) }
 {
-    let answer = store::restore(listing, out);
-    records(answer, first, second, third)
+    give(count(store::restore(listing, out)), first, second, third)
 }

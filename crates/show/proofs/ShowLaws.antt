@@ -17,25 +17,23 @@ use Rattle.definitions.specs.Text.{text_into, code_into}
 use Rattle.laws.proofs.Inversion.{impossible}
 use Rattle.laws.proofs.Results.{onward_is}
 use Rattle.instr.proofs.WholeLaws.{length_listing}
-use Rattle.ir.specs.declared.Refusal.{Refusal}
+use Rattle.std.specs.Prelude as std
+use Rattle.std.specs.Prelude.{Ok, Err}
+use Rattle.instr.specs.declared.refusals.Refusal.{Refusal}
+use Rattle.instr.specs.Refusals.{number_of}
 use Rattle.landing.specs.Walk.{Bytes}
 use Rattle.landing.proofs.Theorem.{bounded}
 use Rattle.resolve.specs.Values.{resolving}
-use Rattle.resolve.specs.declared.Resolved.{Resolved}
-use Rattle.resolve.specs.declared.Resolved.TheVariants as resolved
 use Rattle.resolve.proofs.Listed.{resolved_length, resolved_listing}
 use Rattle.resolve.proofs.Delivered.{labelled_is, listing_front_law, delivers_stage}
 use Rattle.assemble.specs.Whole.{answer}
-use Rattle.assemble.specs.declared.Lowered.{Lowered}
-use Rattle.assemble.specs.declared.Lowered.TheVariants as lowering
-use Rattle.steps.specs.declared.Counters.{Counters}
+use Rattle.steps.specs.declared.counters.Counters.{Counters}
 use Rattle.print.specs.Values.{sign_of, Answers}
 use Rattle.print.specs.declared.Form.TheVariants.{Distances}
-use Rattle.print.specs.declared.Text.{Text}
 use Rattle.print.proofs.AnswerLaws.{over_holds, written_is_printed}
 
 -- an answer, with its text by another name
-pub answers_as : {t u : Result (List ℕ)} {r : Text} {b a : List ℕ} → t ≡ u → Answers t r b a → Answers u r b a
+pub answers_as : {t u : Result (List ℕ)} {r : std.Result ℕ Refusal} {b a : List ℕ} → t ≡ u → Answers t r b a → Answers u r b a
 answers_as e x = rw e at x
 
 -- 1. A listing that was resolved
@@ -61,24 +59,25 @@ unfolding resolve_to printed
 refused_as (made rs) n p z o code e = impossible (cc)
 refused_as (refusal a b c) n p z o code e = cc
 
-module _ (s w o code : List ℕ) (r : Resolved) (e : resolving r code ≡ resolve_to (resolve s w (length o)) o) where
-  pub unresolved_text : (q : Refusal) → r ≡ resolved.Refused q → printed (resolve s w (length o)) ≡ refused_with q.number q.place q.extra
+module _ (s w o code : List ℕ) where
+  pub unresolved_text : (q : Refusal) → resolving (Err q) code ≡ resolve_to (resolve s w (length o)) o → printed (resolve s w (length o)) ≡ refused_with (number_of q.reason) q.place q.extra
   unfolding resolving
-  unresolved_text q d = refused_as (resolve s w (length o)) _ _ _ o code (rw d at e)
+  unresolved_text q e = refused_as (resolve s w (length o)) _ _ _ o code e
 
-  pub coded_is : (n : ℕ) → r ≡ resolved.Done n → Coded (resolve s w (length o)) n code
-  unfolding resolving
-  coded_is n d = coded_as (resolve s w (length o)) n o code (rw d at e)
+  module _ (n : ℕ) (e : resolving (Ok n) code ≡ resolve_to (resolve s w (length o)) o) where
+    pub coded_is : Coded (resolve s w (length o)) n code
+    unfolding resolving
+    coded_is = coded_as (resolve s w (length o)) n o code e
 
-  pub coded_few : (n : ℕ) → r ≡ resolved.Done n → Bytes s → n ≤ record_limit
-  coded_few n d b = let c = coded_is n d in omega (arith, c.count, (resolved_listing s w (length o) c.records b c.is).few)
+    pub coded_few : Bytes s → n ≤ record_limit
+    coded_few b = let c = coded_is in omega (arith, c.count, (resolved_listing s w (length o) c.records b c.is).few)
 
-  -- the text of the listing is that of the records
-  pub coded_text : (n : ℕ) → r ≡ resolved.Done n → Bytes s → (space : ℕ) → code_into (sign_of Distances) (take (listing_length n) code) space ≡ text_into (printed (resolve s w (length o))) space
-  coded_text n d b space =
-      let c = coded_is n d in
-      let l = resolved_listing s w (length o) c.records b c.is in
-      ap (λ y. code_into (sign_of Distances) y space) c.stands ∙ written_is_printed c.records l.within l.good l.few space ∙ ap (λ y. text_into (printed y) space) (sym c.is)
+    -- the text of the listing is that of the records
+    pub coded_text : Bytes s → (space : ℕ) → code_into (sign_of Distances) (take (listing_length n) code) space ≡ text_into (printed (resolve s w (length o))) space
+    coded_text b space =
+        let c = coded_is in
+        let l = resolved_listing s w (length o) c.records b c.is in
+        ap (λ y. code_into (sign_of Distances) y space) c.stands ∙ written_is_printed c.records l.within l.good l.few space ∙ ap (λ y. text_into (printed y) space) (sym c.is)
 
 -- 2. A unit that is not too long
 
@@ -123,14 +122,10 @@ module _ (s : List ℕ) (short : length s ≤ input_limit) where
   turned_as (made t) n p x o m o' m' e = impossible (cc)
   turned_as (refusal a b c) n p x o m o' m' e = cc
 
-  module _ (o m : List ℕ) (room : listing_length input_limit ≤ length o) (words : label_limit ≤ length m) (r : Lowered) (o' m' : List ℕ) (e : answer r o' m' ≡ lower_to (lower_into s (length o) (length m)) o m) where
-    pub turned_text : (q : Refusal) → r ≡ lowering.Refused q → printed (stage s) ≡ refused_with q.number q.place q.extra
+  module _ (o m : List ℕ) (room : listing_length input_limit ≤ length o) (words : label_limit ≤ length m) (o' m' : List ℕ) where
+    pub turned_text : (q : Refusal) → answer (Err q) o' m' ≡ lower_to (lower_into s (length o) (length m)) o m → printed (stage s) ≡ refused_with (number_of q.reason) q.place q.extra
     unfolding answer
-    turned_text q d = stage_refused _ _ _ (sym (enough (length o) (length m) room words) ∙ turned_as (lower_into s (length o) (length m)) _ _ _ o m o' m' (rw d at e))
-
-    listed_here : (c : Counters) → r ≡ lowering.Done c → lower_to (lower_into s (length o) (length m)) o m ≡ listed c.offset c.labels c.count o' m'
-    unfolding answer
-    listed_here c d = sym (rw d at e)
+    turned_text q e = stage_refused _ _ _ (sym (enough (length o) (length m) room words) ∙ turned_as (lower_into s (length o) (length m)) _ _ _ o m o' m' e)
 
     -- the first bytes are the listing
     listing_fits : (x : Result State) (a k n : ℕ) → lower_to x o m ≡ listed a k n o' m' → listing_length n ≤ length o'
@@ -141,12 +136,17 @@ module _ (s : List ℕ) (short : length s ≤ input_limit) where
         rw i (omega (arith, l, length_listing t.instrs, over_holds (listing_bytes t.instrs) o))
     listing_fits (refusal b p x) a k n h = impossible (cc)
 
-    pub listed_fits : (c : Counters) → r ≡ lowering.Done c → listing_length c.count ≤ length o'
-    listed_fits c d = listing_fits _ _ _ _ (listed_here c d)
+    module _ (c : Counters) (e : answer (Ok c) o' m' ≡ lower_to (lower_into s (length o) (length m)) o m) where
+      listed_here : lower_to (lower_into s (length o) (length m)) o m ≡ listed c.offset c.labels c.count o' m'
+      unfolding answer
+      listed_here = sym e
 
-    -- and resolving them is the stage
-    pub listed_text : (c : Counters) → r ≡ lowering.Done c → Bytes s → (space : ℕ) → listing_length input_limit ≤ space → resolve (take (listing_length c.count) o') m' space ≡ stage s
-    listed_text c d b space h = delivers_stage s o m b _ _ _ o' m' (listed_here c d) m' space refl ∙ stage_fits space h
+      pub listed_fits : listing_length c.count ≤ length o'
+      listed_fits = listing_fits _ _ _ _ listed_here
+
+      -- and resolving them is the stage
+      pub listed_text : Bytes s → (space : ℕ) → listing_length input_limit ≤ space → resolve (take (listing_length c.count) o') m' space ≡ stage s
+      listed_text b space h = delivers_stage s o m b _ _ _ o' m' listed_here m' space refl ∙ stage_fits space h
 
 -- 3. The input
 

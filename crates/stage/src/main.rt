@@ -1,7 +1,9 @@
 // Reads a unit from standard input and prints its stage, document 01's printed form.
 #![tactic(auto)]
 
-use print::Text;
+ghost use Rattle.std.specs.Prelude.{◌≤◌, length, IfOk};
+
+use instr::refusals::Reason;
 use std::io;
 use std::io::{Read, Write};
 
@@ -11,24 +13,19 @@ type Unit = [u8; 2049];
 // The text of a unit of 2,048 bytes: at most 2,048 lines of at most 56 bytes, and the first.
 type Page = [u8; 131072];
 
-// What was read, or that reading failed.
-#[derive(Clone, Copy)]
-enum Got {
-    Bytes(usize),
-    Failure,
-}
-
-// The whole input, as far as it fits.
-fn read_input(from: &mut impl Read, input: &mut [u8]) -> Got {
+// The whole input, as far as it fits: how many bytes it has.
+fn read_input(from: &mut impl Read, input: &mut [u8]) -> io::Result<usize>
+    ensures { IfOk result (λ n. n ≤ length input.new) }
+{
     let mut n = 0;
     while n < input.len() {
-        match from.read(&mut input[n..]) {
-            Ok(0) => return Got::Bytes(n),
-            Ok(step) => n += step,
-            Err(_) => return Got::Failure,
+        let got = from.read(&mut input[n..])?;
+        if got == 0 {
+            break;
         }
+        n += got;
     }
-    Got::Bytes(n)
+    Ok(n)
 }
 
 fn message(rt: &impl Eprint, text: &str) -> io::Result<()> {
@@ -45,21 +42,16 @@ fn print_all(rt: &(impl Print + Eprint), text: &[u8]) -> io::Result<()> {
 
 fn print_stage(rt: &(impl Print + Eprint), input: &[u8], page: &mut [u8]) -> io::Result<()> {
     match show::show(input, page) {
-        Text::Done { length } => print_all(rt, &page[..length]),
-        Text::Bad => message(rt, "the listing is none"),
-        Text::Short => message(rt, "the text is too long"),
+        Ok(length) => print_all(rt, &page[..length]),
+        Err(q) if q.reason == Reason::Listing => message(rt, "the listing is none"),
+        Err(_) => message(rt, "the text is too long"),
     }
 }
 
 fn run(rt: &(impl Input + Print + Eprint), input: &mut [u8], page: &mut [u8]) -> io::Result<()> {
     match read_input(&mut rt.reader(), input) {
-        Got::Failure => message(rt, "the input could not be read"),
-        Got::Bytes(n) => {
-            if n <= input.len() {
-                print_stage(rt, &input[..n], page)?;
-            }
-            Ok(())
-        }
+        Ok(n) => print_stage(rt, &input[..n], page),
+        Err(_) => message(rt, "the input could not be read"),
     }
 }
 

@@ -1,17 +1,18 @@
 // Units at the limits, lowered and resolved: what lowering counted, and the first line of the printed stage.
 use super::{answers, show};
-use assemble::Lowered;
+use instr::refusals::Refusal;
 use samples::{made, text};
 use std::io;
 use std::io::Write;
+use steps::counters::Counters;
 
 type Marks = [u32; 65536];
 
 // The resolved listing of 32,761 Nops in a loop, and more.
 type Code = [u8; 750000];
 
-fn counted(rt: &impl Print, lowered: Lowered) -> io::Result<()> {
-    if let Lowered::Done(c) = lowered {
+fn counted(rt: &impl Print, lowered: Result<Counters, Refusal>) -> io::Result<()> {
+    if let Ok(c) = lowered {
         show::labelled(rt, c)?;
         print!(rt; "; ")?;
     }

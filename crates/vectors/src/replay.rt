@@ -17,49 +17,36 @@ type Marks = [u32; 2048];
 type Words = [u8; 16384];
 
 // How many units there are, and how many answers agree and differ.
-#[derive(Clone, Copy)]
+#[derive(Clone, Copy, Debug, Default, PartialEq, Eq)]
 struct Tally {
     units: u64,
     agree: u64,
     differ: u64,
 }
 
-fn nothing() -> Tally {
-    Tally {
-        units: 0,
-        agree: 0,
-        differ: 0,
-    }
-}
-
-// The sums cannot wrap in a file of a page, so that they are not bounded here.
-fn sum(a: Tally, b: Tally) -> Tally {
-    Tally {
-        units: std::num::wrapping_add_u64(a.units, b.units),
-        agree: std::num::wrapping_add_u64(a.agree, b.agree),
-        differ: std::num::wrapping_add_u64(a.differ, b.differ),
-    }
-}
-
-fn compared(agrees: bool) -> Tally {
-    if agrees {
+impl Tally {
+    // Of one answer.
+    fn compared(agrees: bool) -> Self {
         Tally {
             units: 0,
-            agree: 1,
-            differ: 0,
+            agree: u64::from(agrees),
+            differ: u64::from(!agrees),
         }
-    } else {
+    }
+
+    // The sums cannot wrap in a file of a page, so that they are not bounded here.
+    fn and(self, other: Tally) -> Self {
         Tally {
-            units: 0,
-            agree: 0,
-            differ: 1,
+            units: self.units.wrapping_add(other.units),
+            agree: self.agree.wrapping_add(other.agree),
+            differ: self.differ.wrapping_add(other.differ),
         }
     }
 }
 
 // Whether an answer ends here: the unit's other answer follows, or an empty line, or nothing.
 fn ends(words: &[u8]) -> bool {
-    words.len() == 0
+    words.is_empty()
         || text::begins(words, b"\n")
         || text::begins(words, b"stage\n")
         || text::begins(words, b"labelled\n")
@@ -67,7 +54,7 @@ fn ends(words: &[u8]) -> bool {
 
 // Whether the file has this answer, byte for byte, and then its end. An answer has text.
 fn same(words: &[u8], answer: &[u8]) -> bool {
-    answer.len() != 0 && text::begins(words, answer) && ends(text::rest(words, answer.len()))
+    !answer.is_empty() && text::begins(words, answer) && ends(text::rest(words, answer.len()))
 }
 
 fn stage_with(
@@ -113,17 +100,17 @@ fn labelled_agrees(unit: &[u8], words: &[u8]) -> bool {
 // The answer that begins at this line, if one does.
 fn answer(unit: &[u8], words: &[u8]) -> Tally {
     if text::begins(words, b"stage\n") {
-        return compared(stage_agrees(unit, text::rest(words, 6)));
+        return Tally::compared(stage_agrees(unit, text::rest(words, 6)));
     }
     if text::begins(words, b"labelled\n") {
-        return compared(labelled_agrees(unit, text::rest(words, 9)));
+        return Tally::compared(labelled_agrees(unit, text::rest(words, 9)));
     }
-    nothing()
+    Tally::default()
 }
 
 // The answers up to an empty line.
 fn all_answers(unit: &[u8], words: &[u8]) -> Tally {
-    let mut tally = nothing();
+    let mut tally = Tally::default();
     let mut at = 0;
     while at < words.len() {
         let rest = &words[at..];
@@ -131,8 +118,8 @@ fn all_answers(unit: &[u8], words: &[u8]) -> Tally {
         if end == 0 {
             return tally;
         }
-        tally = sum(tally, answer(unit, rest));
-        at = at + end + 1;
+        tally = tally.and(answer(unit, rest));
+        at += end + 1;
     }
     tally
 }
@@ -181,7 +168,7 @@ fn unit_here(rt: &impl Print, words: &[u8], naming: bool) -> io::Result<Tally> {
     if text::begins(words, b"unit ") {
         return unit(rt, text::rest(words, 5), naming);
     }
-    Ok(nothing())
+    Ok(Tally::default())
 }
 
 fn summary(rt: &impl Print, name: &str, tally: Tally) -> io::Result<()> {
@@ -193,12 +180,12 @@ fn summary(rt: &impl Print, name: &str, tally: Tally) -> io::Result<()> {
 
 // Every unit of a file, line by line.
 fn all_units(rt: &impl Print, words: &[u8], naming: bool) -> io::Result<Tally> {
-    let mut tally = nothing();
+    let mut tally = Tally::default();
     let mut at = 0;
     while at < words.len() {
         let rest = &words[at..];
-        tally = sum(tally, unit_here(rt, rest, naming)?);
-        at = at + text::find(rest, b'\n') + 1;
+        tally = tally.and(unit_here(rt, rest, naming)?);
+        at += text::find(rest, b'\n') + 1;
     }
     Ok(tally)
 }

@@ -1,10 +1,6 @@
 // Lent buffers with a pattern that must be there afterwards: behind what was written, and everywhere after a refusal.
-ghost use Rattle.std.specs.Prelude.{◌≤◌};
-
 use super::answers::listing_end;
 use super::show;
-use assemble::Lowered;
-use resolve::Resolved;
 use samples::{made, text};
 use std::io;
 
@@ -17,62 +13,21 @@ type Marks = [u32; 65538];
 
 type Code = [u8; 120];
 
-fn fill_bytes(out: &mut [u8]) {
-    let mut i = 0;
-    while i < out.len() {
-        out[i] = BYTE;
-        i += 1;
-    }
-}
-
-fn fill_words(marks: &mut [u32]) {
-    let mut i = 0;
-    while i < marks.len() {
-        marks[i] = WORD;
-        i += 1;
-    }
-}
-
-fn one_if(same: bool) -> usize
-    ensures { result ≤ 1 }
-{
-    if same { 1 } else { 0 }
+fn lent(rt: &impl Print, name: &str, bytes: usize) -> io::Result<()> {
+    print!(rt; "{name}: bytes lent {bytes}")
 }
 
 // How many bytes from `from` on hold the pattern.
-fn bytes_left(out: &[u8], from: usize) -> usize {
-    let mut i = from;
-    let mut n = 0;
-    while i < out.len() {
-        n += one_if(out[i] == BYTE);
-        i += 1;
-    }
-    n
-}
-
-fn words_left(marks: &[u32], from: usize) -> usize {
-    let mut i = from;
-    let mut n = 0;
-    while i < marks.len() {
-        n += one_if(marks[i] == WORD);
-        i += 1;
-    }
-    n
-}
-
-fn lent(rt: &impl Print, name: &str, bytes: usize) -> io::Result<()> {
-    print!(rt; "{name}: bytes lent")?;
-    show::number(rt, bytes as u64)
-}
-
 fn bytes_hold(rt: &impl Print, out: &[u8], from: usize) -> io::Result<()> {
-    print!(rt; "; bytes with the pattern")?;
-    show::number(rt, bytes_left(out, from) as u64)
+    let rest = out.get(from..).unwrap_or(&[]);
+    let n = rest.iter().filter(|&&b| b == BYTE).count();
+    print!(rt; "; bytes with the pattern {n}")
 }
 
 fn words_hold(rt: &impl Print, marks: &[u32], from: usize) -> io::Result<()> {
-    print!(rt; ", words")?;
-    show::number(rt, words_left(marks, from) as u64)
+    let rest = marks.get(from..).unwrap_or(&[]);
+    let n = rest.iter().filter(|&&w| w == WORD).count();
+    print!(rt; ", words {n}")
 }
 
 fn both_hold(
@@ -89,14 +44,14 @@ fn both_hold(
 
 // The answer of lowering, and what is left of the pattern behind it.
 fn lowered(rt: &impl Print, unit: &[u8], out: &mut [u8], marks: &mut [u32]) -> io::Result<()> {
-    fill_bytes(out);
-    fill_words(marks);
+    out.fill(BYTE);
+    marks.fill(WORD);
     match assemble::lower(unit, out, marks) {
-        Lowered::Refused(q) => {
-            show::refused(rt, q)?;
+        Err(q) => {
+            print!(rt; "{q}")?;
             both_hold(rt, out, 0, marks, 0)
         }
-        Lowered::Done(c) => {
+        Ok(c) => {
             show::labelled(rt, c)?;
             let end = listing_end(c.count as usize);
             both_hold(rt, out, end, marks, c.labels as usize)
@@ -115,13 +70,9 @@ fn lower_in(
     words: usize,
 ) -> io::Result<()> {
     lent(rt, name, bytes)?;
-    print!(rt; ", words lent")?;
-    show::number(rt, words as u64)?;
-    print!(rt; "; ")?;
-    if bytes <= out.len() {
-        if words <= marks.len() {
-            lowered(rt, unit, &mut out[..bytes], &mut marks[..words])?;
-        }
+    print!(rt; ", words lent {words}; ")?;
+    if bytes <= out.len() && words <= marks.len() {
+        lowered(rt, unit, &mut out[..bytes], &mut marks[..words])?;
     }
     Ok(())
 }
@@ -173,20 +124,19 @@ fn too_little(rt: &impl Print, unit: &[u8], out: &mut [u8], marks: &mut [u32]) -
 
 // The answer of resolving, likewise.
 fn resolved(rt: &impl Print, listing: &[u8], marks: &[u32], code: &mut [u8]) -> io::Result<()> {
-    fill_bytes(code);
-    match resolve::resolve(listing, marks, code) {
-        Resolved::Refused(q) => {
-            show::refused(rt, q)?;
-            bytes_hold(rt, code, 0)?;
-            println!(rt)
+    code.fill(BYTE);
+    let held = match resolve::resolve(listing, marks, code) {
+        Err(q) => {
+            print!(rt; "{q}")?;
+            0
         }
-        Resolved::Done { count } => {
-            print!(rt; "resolved")?;
-            show::number(rt, count as u64)?;
-            bytes_hold(rt, code, listing_end(count))?;
-            println!(rt)
+        Ok(count) => {
+            print!(rt; "resolved {count}")?;
+            listing_end(count)
         }
-    }
+    };
+    bytes_hold(rt, code, held)?;
+    println!(rt)
 }
 
 fn resolve_in(
@@ -227,7 +177,7 @@ fn small(
     code: &mut Code,
 ) -> io::Result<()> {
     let n = made::while_nops(page, 2);
-    if let Lowered::Done(c) = assemble::lower(text::first(page, n), out, marks) {
+    if let Ok(c) = assemble::lower(text::first(page, n), out, marks) {
         let end = listing_end(c.count as usize);
         resolving(rt, text::first(out, end), marks, code)?;
     }

@@ -1,24 +1,8 @@
-// Numbers and refusals on standard output.
-use ir::Refusal;
+// What lowering counted, on standard output.
 use std::io;
-use steps::Counters;
+use steps::counters::Counters;
 
-pub fn number(rt: &impl Print, n: u64) -> io::Result<()> {
-    print!(rt; " {n}")
-}
-
-pub fn refused(rt: &impl Print, q: Refusal) -> io::Result<()> {
-    print!(rt; "refused")?;
-    number(rt, q.number as u64)?;
-    number(rt, q.place as u64)?;
-    number(rt, q.extra as u64)
-}
-
-// What lowering counted.
 pub fn labelled(rt: &impl Print, c: Counters) -> io::Result<()> {
-    print!(rt; "labelled")?;
-    number(rt, c.count as u64)?;
-    number(rt, c.offset as u64)?;
-    print!(rt; ", labels")?;
-    number(rt, c.labels as u64)
+    let (count, offset, labels) = (c.count, c.offset, c.labels);
+    print!(rt; "labelled {count} {offset}, labels {labels}")
 }

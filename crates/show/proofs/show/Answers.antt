@@ -7,7 +7,7 @@ use native.Mathlib.Omega.{arith}
 use Rattle.show.proofs.show.Goals as goal
 
 pub returns-then-input-gt-LONGEST : goal.returns-then-input-gt-LONGEST
-returns-then-input-gt-LONGEST c = answers_as (ap (λ y. text_into y (length c.args.out.now)) (sym (shown_long c.args.input.now c.if-input-gt-LONGEST.true))) c.print_refusal.ensures
+returns-then-input-gt-LONGEST c = answers_as (ap (λ y. text_into y (length c.args.out.now)) (sym (shown_long c.args.input.now c.if-input-gt-LONGEST.true))) (rw c.of.ensures at c.show_refusal.ensures)
 
 pub show_unit-requires : goal.show_unit-requires
 unfolding label_limit

@@ -7,19 +7,19 @@ use native.Mathlib.Omega.{arith}
 use Rattle.show.proofs.show_resolved.Goals as goal
 
 pub overflow_mul-end : goal.overflow_mul-end
-overflow_mul-end c = omega (arith, coded_few c.args.listing.now c.args.marks.now c.args.code.now _ _ c.resolve-resolved.ensures _ c.in-Done.is (λ k. omega (arith, c.type_inv.listing k)))
+overflow_mul-end c = omega (arith, coded_few c.args.listing.now c.args.marks.now c.args.code.now _ _ c.in-Ok.ensures (λ k. omega (arith, c.type_inv.listing k)))
 
 pub overflow_add-end : goal.overflow_add-end
-overflow_add-end c = omega (arith, coded_few c.args.listing.now c.args.marks.now c.args.code.now _ _ c.resolve-resolved.ensures _ c.in-Done.is (λ k. omega (arith, c.type_inv.listing k)))
+overflow_add-end c = omega (arith, coded_few c.args.listing.now c.args.marks.now c.args.code.now _ _ c.in-Ok.ensures (λ k. omega (arith, c.type_inv.listing k)))
 
 pub slice_bounds-print_code-end : goal.slice_bounds-print_code-end
-slice_bounds-print_code-end c = (coded_is c.args.listing.now c.args.marks.now c.args.code.now _ _ c.resolve-resolved.ensures _ c.in-Done.is).fits
+slice_bounds-print_code-end c = (coded_is c.args.listing.now c.args.marks.now c.args.code.now _ _ c.in-Ok.ensures).fits
 
-pub slice_bounds-print_code-end-in-Done : goal.slice_bounds-print_code-end-in-Done
-slice_bounds-print_code-end-in-Done c = sym (length-take-le _ _ (coded_is c.args.listing.now c.args.marks.now c.args.code.now _ _ c.resolve-resolved.ensures _ c.in-Done.is).fits)
+pub slice_bounds-print_code-end-in-Ok : goal.slice_bounds-print_code-end-in-Ok
+slice_bounds-print_code-end-in-Ok c = sym (length-take-le _ _ (coded_is c.args.listing.now c.args.marks.now c.args.code.now _ _ c.in-Ok.ensures).fits)
 
-pub returns-in-Refused : goal.returns-in-Refused
-returns-in-Refused c = answers_as (ap (λ y. text_into y (length c.args.out.now)) (sym (unresolved_text c.args.listing.now c.args.marks.now c.args.code.now _ _ c.resolve-resolved.ensures _ c.in-Refused.is))) c.print_refusal.ensures
+pub returns-in-Err : goal.returns-in-Err
+returns-in-Err c = answers_as (ap (λ y. text_into y (length c.args.out.now)) (sym (unresolved_text c.args.listing.now c.args.marks.now c.args.code.now _ _ c.in-Err.ensures))) c.show_refusal.ensures
 
-pub returns-in-Done : goal.returns-in-Done
-returns-in-Done c = answers_as (coded_text c.args.listing.now c.args.marks.now c.args.code.now _ _ c.resolve-resolved.ensures _ c.in-Done.is (λ k. omega (arith, c.type_inv.listing k)) _) c.print_code.ensures
+pub returns-in-Ok : goal.returns-in-Ok
+returns-in-Ok c = answers_as (coded_text c.args.listing.now c.args.marks.now c.args.code.now _ _ c.in-Ok.ensures (λ k. omega (arith, c.type_inv.listing k)) _) c.print_code.ensures

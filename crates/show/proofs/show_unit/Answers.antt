@@ -8,13 +8,13 @@ use native.Mathlib.Omega.{arith}
 use Rattle.show.proofs.show_unit.Goals as goal
 
 pub slice_bounds-show_resolved-end : goal.slice_bounds-show_resolved-end
-slice_bounds-show_resolved-end c = listed_fits c.args.unit.now c.requires.unit_len_bound c.args.listing.now c.args.marks.now c.requires.input_limit_in_bounds.0 c.requires.input_limit_in_bounds.1 _ _ _ c.lower-lowered.ensures _ c.in-Done.is
+slice_bounds-show_resolved-end c = listed_fits c.args.unit.now c.requires.unit_len_bound c.args.listing.now c.args.marks.now c.requires.input_limit_in_bounds.0 c.requires.input_limit_in_bounds.1 _ _ _ c.in-Ok.ensures
 
-pub slice_bounds-show_resolved-end-in-Done : goal.slice_bounds-show_resolved-end-in-Done
-slice_bounds-show_resolved-end-in-Done c = sym (length-take-le _ _ (listed_fits c.args.unit.now c.requires.unit_len_bound c.args.listing.now c.args.marks.now c.requires.input_limit_in_bounds.0 c.requires.input_limit_in_bounds.1 _ _ _ c.lower-lowered.ensures _ c.in-Done.is))
+pub slice_bounds-show_resolved-end-in-Ok : goal.slice_bounds-show_resolved-end-in-Ok
+slice_bounds-show_resolved-end-in-Ok c = sym (length-take-le _ _ (listed_fits c.args.unit.now c.requires.unit_len_bound c.args.listing.now c.args.marks.now c.requires.input_limit_in_bounds.0 c.requires.input_limit_in_bounds.1 _ _ _ c.in-Ok.ensures))
 
-pub returns-in-Refused : goal.returns-in-Refused
-returns-in-Refused c = answers_as (ap (λ y. text_into y (length c.args.out.now)) (sym (turned_text c.args.unit.now c.requires.unit_len_bound c.args.listing.now c.args.marks.now c.requires.input_limit_in_bounds.0 c.requires.input_limit_in_bounds.1 _ _ _ c.lower-lowered.ensures _ c.in-Refused.is))) c.print_refusal.ensures
+pub returns-in-Err : goal.returns-in-Err
+returns-in-Err c = answers_as (ap (λ y. text_into y (length c.args.out.now)) (sym (turned_text c.args.unit.now c.requires.unit_len_bound c.args.listing.now c.args.marks.now c.requires.input_limit_in_bounds.0 c.requires.input_limit_in_bounds.1 _ _ _ c.in-Err.ensures))) c.show_refusal.ensures
 
-pub returns-in-Done : goal.returns-in-Done
-returns-in-Done c = answers_as (ap (λ y. text_into (printed y) (length c.args.out.now)) (listed_text c.args.unit.now c.requires.unit_len_bound c.args.listing.now c.args.marks.now c.requires.input_limit_in_bounds.0 c.requires.input_limit_in_bounds.1 _ _ _ c.lower-lowered.ensures _ c.in-Done.is (λ k. omega (arith, c.type_inv.unit k)) _ c.requires.input_limit_in_bounds.2)) c.show_resolved.ensures
+pub returns-in-Ok : goal.returns-in-Ok
+returns-in-Ok c = answers_as (ap (λ y. text_into (printed y) (length c.args.out.now)) (listed_text c.args.unit.now c.requires.unit_len_bound c.args.listing.now c.args.marks.now c.requires.input_limit_in_bounds.0 c.requires.input_limit_in_bounds.1 _ _ _ c.in-Ok.ensures (λ k. omega (arith, c.type_inv.unit k)) _ c.requires.input_limit_in_bounds.2)) c.show_resolved.ensures

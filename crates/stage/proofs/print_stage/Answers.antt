@@ -1,10 +1,10 @@
-use mathlib.Core.Path.{sym}
+use mathlib.Core.Path.{refl, sym}
 use lib.Seq.{length-take-le}
 use Rattle.print.proofs.AnswerLaws.{done_within}
 use Rattle.stage.proofs.print_stage.Goals as goal
 
 pub slice_bounds-print_all-end : goal.slice_bounds-print_all-end
-slice_bounds-print_all-end g c = done_within _ c.in-Done.is c.show.ensures
+slice_bounds-print_all-end g c = done_within _ refl c.in-Ok.ensures
 
-pub slice_bounds-print_all-end-in-Done : goal.slice_bounds-print_all-end-in-Done
-slice_bounds-print_all-end-in-Done g c = sym (length-take-le _ _ (done_within _ c.in-Done.is c.show.ensures))
+pub slice_bounds-print_all-end-in-Ok : goal.slice_bounds-print_all-end-in-Ok
+slice_bounds-print_all-end-in-Ok g c = sym (length-take-le _ _ (done_within _ refl c.in-Ok.ensures))

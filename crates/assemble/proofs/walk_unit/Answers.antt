@@ -1,12 +1,9 @@
-use Rattle.assemble.proofs.LowerLaws.{unit_here, real_did}
+use Rattle.assemble.proofs.LowerLaws.{unit_here}
 use native.Mathlib.Omega.{arith}
-use Rattle.assemble.proofs.real_walk.Goals as goal
+use Rattle.assemble.proofs.walk_unit.Goals as goal
 
 pub bounds-s-5 : goal.bounds-s-5
 bounds-s-5 c = let u = unit_here _ c.requires in omega (arith, u.head)
 
 pub stmts-requires : goal.stmts-requires
 stmts-requires c = let u = unit_here _ c.requires in record { accepted = u.reads; at_le_end = (u.head, omega arith) }
-
-pub returns : goal.returns
-returns c = real_did _ _ _ _ _ _ _ c.requires c.wide-returns.ensures.0 c.stmts.ensures
