@@ -94,9 +94,6 @@ pub number_step : (s : List ℕ) (from i j v : ℕ) {x : ℕ} → j ≡ from + i
 number_step s from i j v e f g = rw (add-one i, number_suc i s from, g, e, f)
 
 -- no place after `at`
-pub from_there : (w : ℕ) (s : List ℕ) (at : ℕ) {v : ℕ} → v ≡ number w s (at + 0) → v ≡ number w s at
-from_there w s at e = rw (add-zero at) at e
-
 pub one_byte : (s : List ℕ) (at : ℕ) {v : ℕ} → v ≡ get_or s at 0 → v ≡ number 1 s at
 unfolding number
 one_byte s at e = simp (add-zero, zero-add) e

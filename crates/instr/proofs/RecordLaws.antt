@@ -2,12 +2,12 @@
 use Prim.Native.Nat.{ℕ, zero, suc, ◌+◌, ◌-◌, ◌≤◌, ◌<◌, ◌^◌}
 use mathlib.Core.Path.{◌≡◌, refl, sym, ◌∙◌, subst}
 use mathlib.Core.Bool.{Bool, true, ◌&&◌, and-eq-true_iff}
-use mathlib.Core.List.{List, [], ◌∷◌, ◌++◌, map, append_assoc}
+use mathlib.Core.List.{List, [], ◌∷◌, ◌++◌, append_assoc}
 use native.Mathlib.Omega.{arith}
 use native.Mathlib.Nat.{add-zero}
 use native.Mathlib.Numerals.{add-one}
-use lib.Dec.{leb, ltb, eqb, leb→le, lit<}
-use lib.ListN.{length, get_or, take, drop, length-append, drop_of_length-le, get_or-map}
+use lib.Dec.{ltb, eqb, lit<}
+use lib.ListN.{length, get_or, take, drop, length-append, drop_of_length-le}
 use lib.Seq.{take_at, drop-append-add, drop-cons, drop-drop, take-add}
 use borrow.Author.Tests.{le-leb, lt-leb, eqb-true}
 use Rattle.definitions.specs.Bytes.{number, bytes}
@@ -18,7 +18,7 @@ use Rattle.instr.specs.declared.tables.Row.{Row}
 use Rattle.instr.specs.declared.records.Field.{Field}
 use Rattle.laws.proofs.Widths.{Within}
 use Rattle.instr.specs.Values.{row_is, slot, fields_of, stored, written}
-use Rattle.laws.proofs.Tables.{every, at}
+use Rattle.laws.proofs.Tables.{at}
 use Rattle.instr.proofs.NumberLaws.{length_bytes, read_back, write_back}
 
 -- 1. Fields, one after the other
@@ -135,13 +135,6 @@ put_all_law (f ∷ fs) p s at end h l =
 -- one turn of the loop over the fields of a record
 module _ (i : Instr) (fs : List Field) (e : fs ≡ fields_of i) (k : ℕ) where
   -- each ends inside the record
-  pub in_record : (nth fs k).at + (nth fs k).width ≤ record_length
-  unfolding every
-  in_record =
-      let ends : Field → ℕ = λ f. f.at + f.width in
-      let m = get_or-map ends (fields_of i) k (slot 0 0 0) in
-      rw (e, ← m) (leb→le (get_or (map ends (fields_of i)) k 0) record_length (at (λ x. leb x record_length) (map ends (fields_of i)) 0 tt tt k))
-
   pub put_next : (s : List ℕ) {all t : List ℕ} → k < length (fields_of i) → all ≡ put_all (drop k fs) s → t ≡ stored (nth fs k).at (nth fs k).width (nth fs k).value s →
       all ≡ put_all (drop (k + 1) fs) t
   unfolding put_all

@@ -4,13 +4,6 @@ ghost use Rattle.definitions.specs.Bytes.{number};
 ghost use Rattle.definitions.specs.Instr.{record_length};
 ghost use Rattle.instr.specs.Values.{stored};
 
-// A byte as a number.
-pub fn wide(b: u8) -> usize
-    ensures { (result ≡ b) × (result < 256) }
-{
-    usize::from(b)
-}
-
 // Whether the w bytes from `at` on are all in the slice.
 pub(crate) fn inside(s: &[u8], at: usize, w: usize) -> bool
     ensures { result ≡ leb (at + w) (length s.now) }
@@ -29,7 +22,8 @@ fn byte_after(s: &[u8], at: usize, k: usize) -> u8
     }
 }
 
-// The number in the w bytes that begin k places after `at`, each byte tested singly: the plain form.
+// The number in the w bytes that begin k places after `at`, each byte tested singly: the plain form. The fast one stands beside it, since a
+// listing that passed its check is read without a test for each byte.
 pub(crate) fn number_after(s: &[u8], at: usize, k: usize, w: usize) -> u64
     requires { (k ≤ record_length) × (w ≤ 8) }
     ensures { (result ≡ number w s.now (at + k)) × (result < 256 ^ w) }
@@ -53,13 +47,6 @@ pub fn number_inside<const W: usize>(s: &[u8], at: usize) -> u64
     v
 }
 
-pub fn u32_inside(s: &[u8], at: usize) -> usize
-    requires { at + 4 ≤ length s.now }
-    ensures { (result ≡ number 4 s.now at) × (result < 2 ^ 32) }
-{
-    number_inside::<4>(s, at) as usize
-}
-
 // The number in the W bytes from `at` on.
 pub fn number_at<const W: usize>(s: &[u8], at: usize) -> u64
     requires { W ≤ 8 }
@@ -78,6 +65,7 @@ pub fn byte_at(s: &[u8], at: usize) -> u8
     byte_after(s, at, 0)
 }
 
+// This and the two below are no one function of W: their results differ in type, and each caller would have to name both.
 pub fn u16_at(s: &[u8], at: usize) -> u16
     ensures { (result ≡ number 2 s.now at) × (result < 2 ^ 16) }
 {

@@ -6,6 +6,8 @@ ghost use Rattle.instr.specs.Tags.{byte_of, Decodes};
 
 use crate::tables;
 use crate::tables::Row;
+use std::error::Error;
+use std::fmt;
 
 #[derive(Clone, Copy, Debug, PartialEq, Eq)]
 pub enum Tag {
@@ -114,6 +116,15 @@ impl Tag {
 #[derive(Clone, Copy, Debug, PartialEq, Eq)]
 pub struct NoTag(pub u8);
 
+impl fmt::Display for NoTag {
+    fn fmt<W: fmt::Write>(&self, f: &mut fmt::Formatter<W>) -> fmt::Result {
+        write!(f, "no tag has number {}", self.0)
+    }
+}
+
+impl Error for NoTag {}
+
+// Written out: no derive makes it, and the match is the table that a reader checks.
 impl TryFrom<u8> for Tag {
     type Error = NoTag;
 

@@ -8,3 +8,4 @@ pub mod StmtPlaces
 pub mod UnitPlaces
 pub mod Wider
 pub mod ArgLaws
+pub mod KindLaws

@@ -27,6 +27,7 @@ pub enum ExprKind {
     ClosureCall = 16,
 }
 
+// Written out, as for `Tag`.
 impl TryFrom<u8> for ExprKind {
     type Error = UnknownKind;
 
@@ -73,36 +74,3 @@ pub fn const_width(byte: usize) -> usize
 {
     WIDTHS.get(byte).copied().unwrap_or(0)
 }
-
-// The kinds as numbers, for the crates that match on these.
-pub const NOP: u8 = 1;
-
-pub const CONST: u8 = 2;
-
-pub const NULL: u8 = 3;
-
-pub const NEW_INSTANCE: u8 = 4;
-
-pub const CONSTRUCT: u8 = 5;
-
-pub const ASSIGN: u8 = 6;
-
-pub const FIELD: u8 = 7;
-
-pub const INDEX: u8 = 8;
-
-pub const CONDITIONAL: u8 = 9;
-
-pub const DYN_CAST: u8 = 10;
-
-pub const LOCAL: u8 = 11;
-
-pub const INTRINSIC_CALL: u8 = 12;
-
-pub const FREE_CALL: u8 = 13;
-
-pub const STATIC_CALL: u8 = 14;
-
-pub const INSTANCE_CALL: u8 = 15;
-
-pub const CLOSURE_CALL: u8 = 16;

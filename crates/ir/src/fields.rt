@@ -5,7 +5,7 @@ use super::expr::{CONST_BOOL, const_width};
 use instr::numbers::u32_at;
 use instr::refusals::{Reason, Refusal};
 
-// A node or a run: where it begins and where it ends, which is where what it holds must end.
+// A node or a run: where it begins, and where it ends. What it holds must end there too.
 #[derive(Clone, Copy)]
 pub struct Part<'a> {
     pub unit: &'a [u8],

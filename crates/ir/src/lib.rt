@@ -22,7 +22,7 @@ pub const UNIT_LIMIT: usize = 1048576;
 
 pub const DEPTH_LIMIT: usize = 200;
 
-// A unit's return byte and where its block ends.
+// A unit's return byte, a number as in the definitions' tree, and where its block ends.
 #[derive(Clone, Copy, Debug, PartialEq, Eq)]
 pub struct ReadUnit {
     pub returns: usize,

@@ -17,6 +17,7 @@ pub enum StmtKind {
     Return = 10,
 }
 
+// Written out, as for `Tag`.
 impl TryFrom<u8> for StmtKind {
     type Error = UnknownKind;
 
@@ -38,24 +39,3 @@ impl TryFrom<u8> for StmtKind {
         }
     }
 }
-
-// The kinds as numbers, for the crates that match on these.
-pub const EXPR: u8 = 1;
-
-pub const BLOCK: u8 = 2;
-
-pub const WHILE: u8 = 3;
-
-pub const BRANCHES: u8 = 4;
-
-pub const SWITCH: u8 = 5;
-
-pub const INIT_ARRAY: u8 = 6;
-
-pub const INIT_DEFAULT: u8 = 7;
-
-pub const BREAK: u8 = 8;
-
-pub const CONTINUE: u8 = 9;
-
-pub const RETURN: u8 = 10;
