@@ -16,7 +16,7 @@ use Rattle.ir.proofs.ArgLaws.{flagged_read, place_is}
 use Rattle.ir.proofs.Inversion.{expr_at, expr_moves, fill_none}
 use Rattle.steps.specs.Walked.{Accepted, list_of, exprs_from, callee_at, EmittedFrom, LeftFrom, Walk}
 use Rattle.steps.proofs.StepLaws.{recode, emit_alike, bytes_cut}
-use Rattle.steps.proofs.RunLaws.{Goes, goes_start, goes_on, goes_end, goes_stops, one_step, renamed, Turn, turn, listed}
+use Rattle.steps.proofs.RunLaws.{Goes, goes_on, goes_end, goes_stops, one_step, renamed, Turn, turn, listed}
 
 -- 1. The check
 
@@ -26,9 +26,6 @@ pub record FlagsRest (d : ℕ) (s : List ℕ) (end : ℕ) (code : Code) (w : Wal
   pub to : i ≤ end
   pub few : k ≤ i
   pub goes : (o m : List ℕ) → Goes code w o m (require_flags (exprs_of (list_of (exprs_from d s end i))) k) v o m
-
-pub flags_start : (d : ℕ) (s : List ℕ) (end at : ℕ) (w : Walk) → Accepted (exprs_from d s end at) → at ≤ end → FlagsRest d s end (require_flags (exprs_of (list_of (exprs_from d s end at))) 0) w at 0 w
-flags_start d s end at w a h = record { acc = a; to = h; few = omega arith; goes = λ o m. goes_start _ w o m }
 
 pub arg_turn : (d : ℕ) (s : List ℕ) (end i : ℕ) (a : Accepted (exprs_from d s end i)) → i < end → Turn (parse_expr d s) end i a.0 a.1
 arg_turn d s end i a h = turn (parse_expr d s) end i (expr_moves d s end) h a.2

@@ -1,5 +1,6 @@
 -- Expressions that are one record and then their parts in order. Assumes nothing.
-use Rattle.std.proofs.Common.{◌≡◌, ℕ, zero, suc, ◌+◌, ◌-◌, ◌<◌, ◌≤◌, Bool, true, false, cond, ◌&&◌, eqb, ltb, List, [], ◌∷◌, length, get_or, sym, refl, ap, ◌∙◌, arith, ltb-false, ltb-true, lt-ltb, ne_eqb}
+use Rattle.std.proofs.Common.{◌≡◌, ℕ, ◌+◌, ◌-◌, ◌<◌, ◌≤◌, Bool, true, false, cond, ◌&&◌, eqb, ltb, List, [], ◌∷◌, length, get_or, sym, refl, ap, ◌∙◌, arith, ltb-false, ltb-true, lt-ltb, ne_eqb}
+use mathlib.Core.Logic.{◌⊎◌, inl, inr}
 use lib.ListN.{get_or-eq_default}
 use borrow.Author.Tests.{eqb-false}
 use Rattle.std.specs.Prelude as std
@@ -11,15 +12,20 @@ use Rattle.definitions.specs.Instr.{plain}
 use Rattle.definitions.specs.Read.{parse_expr}
 use Rattle.definitions.specs.Code.{Code, done, ◌then◌, act, emit}
 use Rattle.definitions.specs.Lower.{BlockSpan, instr, require, null_tag, element_tag, local_tag, lower_expr, lower_exprs}
-use Rattle.laws.proofs.Arms.{None, those, others, none_pass, past, one_of}
+use Rattle.laws.proofs.Arms.{None, those, others, none_pass, one_of}
 use Rattle.laws.proofs.Trees.{length_exprs_law}
 use Rattle.instr.specs.declared.refusals.Refusal.{Refusal}
+use Rattle.ir.specs.Kinds.{IsUnlisted}
+use Rattle.ir.specs.Kinds as kinds
+use Rattle.ir.specs.declared.expr.ExprKind.{ExprKind}
+use Rattle.ir.specs.declared.expr.ExprKind.TheVariants.{Field, Conditional, FreeCall, StaticCall, InstanceCall, ClosureCall}
+use Rattle.ir.proofs.KindLaws.{expr_is}
 use Rattle.ir.specs.Places.{end_of, ExprAt, RunAt}
 use Rattle.ir.specs.declared.Class.TheVariants.{Expression}
 use Rattle.ir.proofs.Inversion.{expr_at, expr_moves, fill_nil, fill_cons}
 use Rattle.ir.proofs.ExprPlaces.{nop_at, const_at, null_at, new_instance_at, construct_at, assign_at, index_at, dyn_cast_at, local_at, intrinsic_at_law, no_other}
 use Rattle.steps.specs.Walked.{Accepted, code_of, list_of, expr_code, fill_code, exprs_from, const_code, construct_code, intrinsic_code, heads, head_of, head_code, makes_labels, parts_from, parts_at, EmittedFrom, LeftFrom, Walk}
-use Rattle.steps.proofs.StepLaws.{halt, both, SameRun, same_assoc, same_right, same_on, same_back, same_code, same_end}
+use Rattle.steps.proofs.StepLaws.{none_emitted, halt, both, SameRun, same_assoc, same_right, same_on, same_back, same_code, same_end}
 use Rattle.steps.proofs.RunLaws.{listed}
 
 -- 1. The record
@@ -73,48 +79,24 @@ module _ (d : ℕ) (s : List ℕ) (stop at : ℕ) {w r : Walk} {o o' : List ℕ}
   unfolding heads head_of
   intrinsic_head e x = of_kind 12 e x
 
--- the last arm
-pub no_head : (d : ℕ) (s : List ℕ) (stop at k : ℕ) → None k (12 ∷ 11 ∷ 10 ∷ 8 ∷ 6 ∷ 5 ∷ 4 ∷ 3 ∷ 2 ∷ 1 ∷ []) → head_of d s stop at k ≡ done
+-- no record: the kinds whose rules make labels, and a byte that is the number of no kind
+other_head : (d : ℕ) (s : List ℕ) (stop at k : ℕ) {o : List ℕ} {w : Walk} → get_or s (at + 4) 0 ≡ k → head_of d s stop at k ≡ done → EmittedFrom (head_code d s stop at) w o w o
+other_head d s stop at k e h = rw (e, h) none_emitted
+
+pub label_head : (d : ℕ) (s : List ℕ) (stop at : ℕ) {kind : ExprKind} {o : List ℕ} {w : Walk} → kinds.expr_code kind ≡ get_or s (at + 4) 0 →
+    (kind ≡ Field) ⊎ ((kind ≡ Conditional) ⊎ ((kind ≡ FreeCall) ⊎ ((kind ≡ StaticCall) ⊎ ((kind ≡ InstanceCall) ⊎ (kind ≡ ClosureCall))))) → EmittedFrom (head_code d s stop at) w o w o
 unfolding heads head_of
-no_head d s stop at zero h = refl
-no_head d s stop at (suc k) h = one_of 0 12 (suc k) (
-  (
-    (
-      (
-        (
-          (
-            (
-              (
-                (
-                  (
-                    (
-                      (
-                        tt,
-                        λ e. absurd (h.0.0.0.0.0.0.0.0.0.1 e),
-                      ),
-                      λ e. absurd (h.0.0.0.0.0.0.0.0.1 e),
-                    ),
-                    λ e. absurd (h.0.0.0.0.0.0.0.1 e),
-                  ),
-                  λ e. absurd (h.0.0.0.0.0.0.1 e),
-                ),
-                λ e. absurd (h.0.0.0.0.0.1 e),
-              ),
-              λ e. absurd (h.0.0.0.0.1 e),
-            ),
-            λ e. ap (head_of d s stop at) e,
-          ),
-          λ e. absurd (h.0.0.0.1 e),
-        ),
-        λ e. ap (head_of d s stop at) e,
-      ),
-      λ e. absurd (h.0.0.1 e),
-    ),
-    λ e. absurd (h.0.1 e),
-  ),
-  λ e. absurd (h.1 e),
-)
-    (λ n. let l : 13 ≤ suc k = omega (arith, past 0 12 (suc k) n (omega arith)) in get_or-eq_default (heads d s stop at) done {n = suc k} l)
+label_head d s stop at e (inl h) = other_head d s stop at 7 (expr_is e h) refl
+label_head d s stop at e (inr (inl h)) = other_head d s stop at 9 (expr_is e h) refl
+label_head d s stop at e (inr (inr (inl h))) = other_head d s stop at 13 (expr_is e h) refl
+label_head d s stop at e (inr (inr (inr (inl h)))) = other_head d s stop at 14 (expr_is e h) refl
+label_head d s stop at e (inr (inr (inr (inr (inl h))))) = other_head d s stop at 15 (expr_is e h) refl
+label_head d s stop at e (inr (inr (inr (inr (inr h))))) = other_head d s stop at 16 (expr_is e h) refl
+
+pub no_head : (d : ℕ) (s : List ℕ) (stop at : ℕ) {o : List ℕ} {w : Walk} → IsUnlisted 16 (get_or s (at + 4) 0) → EmittedFrom (head_code d s stop at) w o w o
+unfolding heads head_of
+no_head d s stop at (inl e) = other_head d s stop at 0 e refl
+no_head d s stop at (inr l) = other_head d s stop at (get_or s (at + 4) 0) refl (get_or-eq_default (heads d s stop at) done {n = get_or s (at + 4) 0} (omega (arith, l)))
 
 -- of a Construct and of an intrinsic call: the check, then the record
 pub constructed : (d : ℕ) (s : List ℕ) (stop at n class : ℕ) {w v r : Walk} {o o' : List ℕ} → n ≡ length (list_of (exprs_from d s stop (at + 13))) → class ≡ number 4 s (at + 5) →
@@ -163,9 +145,6 @@ parts_after s stop at first f h = rw f (go (eqb (parts_from (get_or s (at + 4) 0
     go : (b : Bool) → eqb (parts_from (get_or s (at + 4) 0)) 0 ≡ b → at < cond b stop (at + parts_from (get_or s (at + 4) 0))
     go true e = h
     go false e = let d = eqb-false (parts_from (get_or s (at + 4) 0)) 0 e in omega arith
-
-pub from_other : (k : ℕ) → k < 256 → None k (those (λ t. ltb 0 (parts_from t)) 256) → 0 ≡ parts_from k
-from_other k h r = omega (arith, ltb-false 0 (parts_from k) (others (λ t. ltb 0 (parts_from t)) 256 k h r))
 
 pub parts_none : (s : List ℕ) (stop at n : ℕ) → n ≡ parts_from (get_or s (at + 4) 0) → n ≡ 0 → stop ≡ parts_at s stop at
 unfolding parts_at

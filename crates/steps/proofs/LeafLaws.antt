@@ -5,15 +5,14 @@ use Rattle.std.specs.Prelude as std
 use Rattle.definitions.specs.Bytes.{number}
 use Rattle.definitions.specs.Tag.{Nop, Assign, Local, Construct, Null, ArrayClear, I32ToEnum, I8Const, ObjectField, I32Zero, I32One, I32Const, FalseConst, TrueConst, const_tag, const_tags, const_widths, intrinsics, intrinsic_of, default_tags}
 use Rattle.definitions.specs.Instr.{plain}
-use Rattle.definitions.specs.Code.{new, mark, emit, act, emits, done, many}
-use Rattle.definitions.specs.Lower.{instr, local_tag, primitive_default, default_instrs}
+use Rattle.definitions.specs.Code.{new, emit, act, emits, done, many}
+use Rattle.definitions.specs.Lower.{instr, primitive_default, default_instrs}
 use Rattle.definitions.specs.Answer.{onward}
 use Rattle.steps.specs.Running.{run}
 use Rattle.std.proofs.Math.Option.{none, some}
 use Rattle.std.specs.Bool.{then_some}
 use mir.Val.{bool_byte}
-use Rattle.steps.specs.Walked.{target_of, const_code, mark_if, same_as, ran, EmittedFrom, LabelledFrom, Walk}
-use denote.Enum.Declared.{tag_of}
+use Rattle.steps.specs.Walked.{target_of, const_code, same_as, ran, EmittedFrom, LabelledFrom, Walk}
 use native.Mathlib.Decide.{dec_lt}
 use Rattle.laws.proofs.Inversion.{impossible}
 use Rattle.std.specs.Prelude.{Option, Some, None}
@@ -37,18 +36,9 @@ use Rattle.std.proofs.lemmas.Option.{slice_get_past, slice_get-get_or}
 use Rattle.instr.specs.declared.tag.Tag.{Tag}
 use Rattle.instr.specs.Tags.{byte_of}
 use Rattle.laws.proofs.Results.{onward_assoc, onward_made}
-use Rattle.steps.proofs.StepLaws.{emitted_both, none_emitted, nothing}
+use Rattle.steps.proofs.StepLaws.{emitted_both, none_emitted}
 
 -- 1. Tables
-
-pub i32_other : (n : ℕ) → (n ≡ 0 → ⊥) → (n ≡ 1 → ⊥) → I32Const ≡ get_or (I32Zero ∷ I32One ∷ []) n I32Const
-i32_other zero h k = absurd (h refl)
-i32_other (suc zero) h k = absurd (k refl)
-i32_other (suc (suc n)) h k = refl
-
-pub bool_other : (n : ℕ) → (n ≡ 0 → ⊥) → TrueConst ≡ get_or (FalseConst ∷ []) n TrueConst
-bool_other zero h = absurd (h refl)
-bool_other (suc n) h = refl
 
 pub const_i32 : (b v r : ℕ) → b ≡ 9 → r ≡ get_or (I32Zero ∷ I32One ∷ []) v I32Const → r ≡ const_tag b v
 unfolding const_tag
@@ -83,16 +73,6 @@ unfolding const_widths every number
 no_width b w s at e i j k l =
     let z : w ≡ 0 = one_of_five w (rw e (at-entry listed const_widths 0 tt tt b)) i j k l in
     ap (λ n. number n s at) (sym z ∙ e)
-
-pub local_other : (n : ℕ) → (n ≡ 0 → ⊥) → (n ≡ 1 → ⊥) → (n ≡ 2 → ⊥) → ObjectField ≡ local_tag n
-unfolding local_tag
-local_other zero h k l = absurd (h refl)
-local_other (suc zero) h k l = absurd (k refl)
-local_other (suc (suc zero)) h k l = absurd (l refl)
-local_other (suc (suc (suc n))) h k l = refl
-
-pub local_is : (n k : ℕ) → n ≡ k → local_tag k ≡ local_tag n
-local_is n k e = ap local_tag (sym e)
 
 -- past no end the default does not count
 get_or_any : {A : Type 0} (xs : List A) (k : ℕ) (d e : A) → k < length xs → get_or xs k d ≡ get_or xs k e
@@ -134,9 +114,6 @@ intrinsic_some k r x e h =
 pub intrinsic_none : (k : ℕ) (r : Option (Bor Intrinsic)) → r ≡ None → IsItemAt INTRINSICS k r → Nop ≡ (intrinsic_of k).tag
 unfolding intrinsic_of intrinsics
 intrinsic_none k r e h = let q = rw e at h in sym (ap (λ x. x.tag) (get_or-eq_default intrinsics _ q.3))
-
-pub typed_no : (short types k : ℕ) → (short ≡ 0 → ⊥) → false ≡ (eqb short 0 && eqb types (intrinsic_of k).types)
-typed_no short types k h = rw (ne_eqb short 0 h)
 
 pub typed_is : (short types k n : ℕ) → short ≡ 0 → n ≡ (intrinsic_of k).types → eqb types n ≡ (eqb short 0 && eqb types (intrinsic_of k).types)
 typed_is short types k n e f = rw (e, f)
@@ -206,36 +183,10 @@ module _ {w v u : Walk} {o o₁ o₂ : List ℕ} (at l b i : ℕ) (x : EmittedFr
 
 -- 3. Labels
 
-pub mark_not : (here l : ℕ) (w : Walk) (m : List ℕ) → here ≡ 0 → LabelledFrom (mark_if here l) w m w m
-unfolding mark_if
-mark_not here l w m e = rw e (record { did = λ o. nothing })
-
-pub mark_here : (here l : ℕ) {w r : Walk} {m m' : List ℕ} → (here ≡ 0 → ⊥) → LabelledFrom (act (mark l)) w m r m' → LabelledFrom (mark_if here l) w m r m'
-unfolding mark_if
-mark_here zero l h d = absurd (h refl)
-mark_here (suc n) l h d = d
-
-pub same_yes : (k index : ℕ) → k ≡ index → 1 ≡ same_as k index
-unfolding same_as
-same_yes k index e = rw (same_as, eq-eqb k index e)
-
-pub same_no : (k index : ℕ) → (k ≡ index → ⊥) → 0 ≡ same_as k index
-unfolding same_as
-same_no k index h = rw (same_as, ne_eqb k index h)
-
-pub mid_no : (there index n : ℕ) → there ≡ 0 → false ≡ (not (eqb there 0) && ltb index n)
-mid_no there index n e = rw e
-
-pub mid_is : (there index n : ℕ) → (there ≡ 0 → ⊥) → ltb index n ≡ (not (eqb there 0) && ltb index n)
-mid_is there index n h = rw (ne_eqb there 0 h)
-
 -- `left` of n labels are left
 pub record NewRest (at n : ℕ) (w : Walk) (m : List ℕ) (left : ℕ) (v : Walk) (m' : List ℕ) : Type 0 where
   pub goes : (o : List ℕ) → onward (ran v o m') (run (many at left done)) ≡ onward (ran w o m) (run (many at n done))
   pub marked : length m' ≡ length m
-
-pub new_start : (at n : ℕ) (w : Walk) (m : List ℕ) → NewRest at n w m n w m
-new_start at n w m = record { goes = λ o. refl; marked = refl }
 
 new_on : (at left : ℕ) (v z : Walk) (m m' : List ℕ) → 0 < left → LabelledFrom (act (new at)) v m z m' → (o : List ℕ) →
     onward (ran z o m') (run (many at (left - 1) done)) ≡ onward (ran v o m) (run (many at left done))

@@ -27,9 +27,6 @@ pub record Goes (p : Code) (w : Walk) (o m : List ℕ) (q : Code) (v : Walk) (o'
   pub outs : length o' ≡ length o
   pub marked : length m' ≡ length m
 
-pub goes_start : (p : Code) (w : Walk) (o m : List ℕ) → Goes p w o m p w o m
-goes_start p w o m = record { same = refl; outs = refl; marked = refl }
-
 pub goes_on : {p q r : Code} {w v z : Walk} {o m o₁ m₁ o₂ m₂ : List ℕ} → Goes p w o m q v o₁ m₁ → Goes q v o₁ m₁ r z o₂ m₂ → Goes p w o m r z o₂ m₂
 goes_on a b = record { same = b.same ∙ a.same; outs = b.outs ∙ a.outs; marked = b.marked ∙ a.marked }
 
@@ -251,12 +248,8 @@ args_end {d} {s} {end} {p = p} {left = left} {m₁ = m₁} a h n = goes_last (re
 
 -- what a call asks of its arguments
 
-pub called_at : (d : ℕ) (s : List ℕ) (end p n : ℕ) → n ≡ get_or s (p + 11) 0 → Called d s end p → end ≤ length s → Accepted (exprs_from d s end (p + 16 + n)) × ((p + 16 + n ≤ end) × (end ≤ length s))
-called_at d s end p n e k h = rw e ((k.args, end, k.reads), (k.fits, h))
-
-pub called_in : (d : ℕ) (s : List ℕ) (end p n : ℕ) → n ≡ get_or s (p + 11) 0 → Called d s end p → end ≤ length s →
-    Accepted (exprs_from d s end (p + 16 + n)) × ((p + 16 + n ≤ end) × (end ≤ length s) × (p + 12 + n ≤ p + 16 + n) × (length (list_of (exprs_from d s end (p + 16 + n))) ≤ n))
-called_in d s end p n e k h = rw e ((k.args, end, k.reads), (k.fits, h, omega arith, omega (arith, k.enough, ap length (listed _ _ _ k.reads))))
+pub called_at : (d : ℕ) (s : List ℕ) (end p n : ℕ) → n ≡ get_or s (p + 11) 0 → Called d s end p → Accepted (exprs_from d s end (p + 16 + n)) × (p + 16 + n ≤ end)
+called_at d s end p n e k = rw e ((k.args, end, k.reads), k.fits)
 
 -- counting
 

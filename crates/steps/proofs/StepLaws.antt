@@ -9,7 +9,7 @@ use Rattle.definitions.specs.Tag as definitions
 use Rattle.definitions.specs.Instr.{Instr, record_length, record_bytes, size, plain}
 use Rattle.definitions.specs.Listing.{listing_length}
 use Rattle.definitions.specs.Code.{Code, done, ◌then◌, label, Action, mark, new, emit, refuse, label_limit, act}
-use Rattle.definitions.specs.Lower.{require, jump_to, jump, instr, weak_to_ref, null_tag, element_tag, nops, BlockSpan}
+use Rattle.definitions.specs.Lower.{require, jump_to, jump, instr, weak_to_ref, nops}
 use Rattle.instr.specs.Values.{written, row_is}
 use Rattle.instr.specs.declared.tables.Row.{Row}
 use Rattle.definitions.specs.Answer.{onward, checked}
@@ -22,8 +22,7 @@ use Rattle.instr.specs.Refusals.{number_of}
 use Rattle.std.proofs.lemmas.Result.{err_from_is_err_and}
 use Rattle.steps.specs.Running.{Cells, put, set_made, move, run}
 use Rattle.steps.specs.Counting.{emitted_of, labelled_of, listed, unmarked_at, marked_at}
-use Rattle.ir.specs.declared.Class.{Class}
-use Rattle.steps.specs.Walked.{fill_code, group_label, open_code, mark_if, Made, Opened, MarksIf, after, ran, labels_of, target_of, Ran, EmittedFrom, LabelledFrom, LeftFrom, Walk}
+use Rattle.steps.specs.Walked.{group_label, open_code, mark_if, Made, Opened, MarksIf, after, ran, labels_of, target_of, Ran, EmittedFrom, LabelledFrom, LeftFrom, Walk}
 use Rattle.steps.specs.declared.counters.Counters.{Counters}
 
 -- 1. Single steps
@@ -38,9 +37,6 @@ emit_stays code w o n e = record { did = λ m. stays code w o m n e }
 
 pub label_stays : (code : Code) (w : Walk) (m : List ℕ) (n : _) → w ≡ std.Err n → LabelledFrom code w m w m
 label_stays code w m n e = record { did = λ o. stays code w o m n e }
-
-pub all_stays : (code : Code) (w : Walk) (n : _) → w ≡ std.Err n → LeftFrom code w w
-all_stays code w n e = record { did = λ o m. stays code w o m n e }
 
 abbrev cells : Counters → List ℕ → List ℕ → Cells
 cells k o m = record { offset = k.offset; labels = k.labels; count = k.count; out = o; marks = m }
@@ -296,10 +292,6 @@ plain_is at t n v m x row e f g =
 pub emitted_both : {p q : Code} {w r z : Walk} {o o' o'' : List ℕ} → EmittedFrom p w o r o' → EmittedFrom q r o' z o'' → EmittedFrom (p then q) w o z o''
 emitted_both a b = record { did = λ m. both (a.did m) (b.did m) }
 
--- the same run in the same scope by another name
-pub rescope : (class : Class) (d : ℕ) (s : List ℕ) (end at : ℕ) {u u' : BlockSpan} {w : Walk} {o m : List ℕ} {r : Walk} {o' m' : List ℕ} → u' ≡ u → Ran (fill_code class d s end at u') w o m r o' m' → Ran (fill_code class d s end at u) w o m r o' m'
-rescope class d s end at e x = recode (ap (fill_code class d s end at) (sym e)) x
-
 -- two records with the same bytes and size are emitted alike
 alike : (i j : Instr) (w : Walk) (o m : List ℕ) → record_bytes j ≡ record_bytes i → tag_size j.tag ≡ tag_size i.tag → onward (ran w o m) (run (act (emit j))) ≡ onward (ran w o m) (run (act (emit i)))
 unfolding ran onward run move put
@@ -311,31 +303,12 @@ emit_alike {i} {j} {w} {r} {o} {o'} e f d = record { did = λ m. record { same =
 
 -- groups
 
-pub group_is : (t : std.Option ℕ) (w : Walk) (l : ℕ) → t ≡ std.Some l → l ≡ group_label t w
-unfolding group_label
-group_is t w l e = rw e
-
-pub group_new : (t : std.Option ℕ) (w : Walk) (l : ℕ) → t ≡ std.None → l ≡ labels_of w → l ≡ group_label t w
-unfolding group_label
-group_new t w l e h = rw e h
-
-pub open_not : (t : std.Option ℕ) (at l : ℕ) (w : Walk) (m : List ℕ) → t ≡ std.Some l → LabelledFrom (open_code t at) w m w m
-unfolding open_code
-open_not t at l w m e = rw e (record { did = λ o. nothing })
-
-pub open_new : (t : std.Option ℕ) (at : ℕ) {w r : Walk} {m m' : List ℕ} → t ≡ std.None → LabelledFrom (act (new at)) w m r m' → LabelledFrom (open_code t at) w m r m'
-unfolding open_code
-open_new t at e d = rw e d
-
 -- NopsFrom
 
 -- `left` of n are left
 pub record NopsRest (at n : ℕ) (w : Walk) (o : List ℕ) (left : ℕ) (v : Walk) (o' : List ℕ) : Type 0 where
   pub goes : (ps : List ℕ) → length ps ≡ n → (qs : List ℕ) × (length qs ≡ left) × ((m : List ℕ) → onward (ran v o' m) (run (nops at qs)) ≡ onward (ran w o m) (run (nops at ps)))
   pub outs : length o' ≡ length o
-
-pub nops_start : (at n : ℕ) (w : Walk) (o : List ℕ) → NopsRest at n w o n w o
-nops_start at n w o = record { goes = λ ps e. (ps, e, λ m. refl); outs = refl }
 
 nops_on : (at left : ℕ) (v z : Walk) (o o' : List ℕ) (qs : List ℕ) → 0 < left → length qs ≡ left → EmittedFrom (instr at Nop 0) v o z o' →
     (rs : List ℕ) × (length rs ≡ left - 1) × ((m : List ℕ) → onward (ran z o' m) (run (nops at rs)) ≡ onward (ran v o m) (run (nops at qs)))
@@ -364,15 +337,6 @@ nops_end {at} {v = v} {o₁ = o₁} r h ps e = record {
       record { same = sym (onward_made (ran v o₁ m)) ∙ y; outs = r.outs; marked = refl };
 }
 
-pub null_none : (n : ℕ) → n ≡ 0 → 0x01 ≡ null_tag n
-unfolding null_tag
-null_none n e = rw e
-
-pub null_some : (n : ℕ) → (n ≡ 0 → ⊥) → 0x65 ≡ null_tag n
-unfolding null_tag
-null_some zero h = absurd (h refl)
-null_some (suc n) h = refl
-
 pub made_set : (m : List ℕ) (l v n : ℕ) {m' : List ℕ} → l < n → m' ≡ set m l v → m' ≡ set_made m l v n
 unfolding set_made
 made_set m l v n h e = rw (lt-ltb l n h) e
@@ -380,15 +344,6 @@ made_set m l v n h e = rw (lt-ltb l n h) e
 pub made_not : (m : List ℕ) (l v n : ℕ) → n ≤ l → m ≡ set_made m l v n
 unfolding set_made
 made_not m l v n h = rw (le-ltb l n h)
-
-pub element_static : (n : ℕ) → n ≡ 0 → 0x55 ≡ element_tag n
-unfolding element_tag
-element_static n e = rw e
-
-pub element_dynamic : (n : ℕ) → (n ≡ 0 → ⊥) → 0x48 ≡ element_tag n
-unfolding element_tag
-element_dynamic zero h = absurd (h refl)
-element_dynamic (suc n) h = refl
 
 pub none_emitted : {w : Walk} {o : List ℕ} → EmittedFrom done w o w o
 none_emitted = record { did = λ m. nothing }

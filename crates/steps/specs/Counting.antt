@@ -1,4 +1,4 @@
--- What emit, new_label and mark_label make of the counters and of the buffer that they are lent. Sums are modulo 2^32.
+-- What emit, add_label and mark_label make of the counters and of the buffer that they are lent. Sums are modulo 2^32.
 use Rattle.std.specs.Prelude.{ℕ, ◌+◌, List, slice_set}
 use Rattle.definitions.specs.Instr.{Instr, size}
 use Rattle.definitions.specs.Code.{unmarked}

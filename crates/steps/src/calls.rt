@@ -5,9 +5,9 @@ ghost use Rattle.definitions.specs.Lower.{weak_to_ref, emit_invoke, require_flag
 ghost use Rattle.steps.specs.Walked.{Accepted, list_of, exprs_from, callee_at, args_at, Called, Emitted, Left, Nops};
 
 use crate::counters::Counters;
-use crate::places::end_of;
+use crate::places::{Nodes, end_of};
 use crate::refusals::require;
-use instr::numbers::{u16_at, u32_at, wide};
+use instr::numbers::{u16_at, u32_at};
 use instr::refusals::{Reason, Refusal};
 use instr::tag::Tag;
 use ir::args::is_prvalue_ref;
@@ -26,64 +26,56 @@ fn bit_if(flagged: bool, bit: u16) -> u16
     if flagged { bit } else { 0 }
 }
 
-// 13, of the first flagged argument at index 16 or later. Decided for all arguments before any is emitted.
-pub fn check_flags(s: &[u8], at: usize, end: usize, depth: usize) -> Result<(), Refusal>
-    requires accepted { Accepted (exprs_from depth s.now end at) }
-    requires at_le_end { (at ≤ end) × (end ≤ length s.now) }
-    ensures { Left (require_flags (exprs_of (list_of (exprs_from depth s.now end at))) 0) result }
-{
-    let mut i = at;
-    let mut k = 0;
-    while i < end {
-        let fits = flag_fits(is_prvalue_ref(s, i), k);
-        require(fits, Reason::Flag, i, k + 1)?;
-        i = end_of(s, i);
-        k += 1;
+impl Nodes<'_> {
+    // 13, of the first flagged argument at index 16 or later. Decided for all arguments before any is emitted.
+    pub fn check_flags(&self, at: usize) -> Result<(), Refusal>
+        requires accepted { Accepted (exprs_from self.now.depth self.now.unit.now self.now.end at) }
+        requires at_le_end { at ≤ self.now.end }
+        ensures { Left (require_flags (exprs_of (list_of (exprs_from self.now.depth self.now.unit.now self.now.end at))) 0) result }
+    {
+        let mut i = at;
+        let mut k = 0;
+        while i < self.end {
+            let fits = flag_fits(is_prvalue_ref(self.unit, i), k);
+            require(fits, Reason::Flag, i, k + 1)?;
+            i = end_of(self.unit, i);
+            k += 1;
+        }
+        Ok(())
     }
-    Ok(())
-}
 
-// The flags of all arguments, a bit for each.
-pub fn flags_of(s: &[u8], at: usize, end: usize, depth: usize) -> u16
-    requires accepted { Accepted (exprs_from depth s.now end at) }
-    requires at_le_end { (at ≤ end) × (end ≤ length s.now) }
-    ensures { result ≡ flags_of (exprs_of (list_of (exprs_from depth s.now end at))) 1 % 2 ^ 16 }
-{
-    let mut i = at;
-    let mut bit: u16 = 1;
-    let mut flags: u16 = 0;
-    while i < end {
-        flags = flags.wrapping_add(bit_if(is_prvalue_ref(s, i), bit));
-        bit = bit.wrapping_add(bit);
-        i = end_of(s, i);
+    // The flags of all arguments, a bit for each.
+    pub fn flags_of(&self, at: usize) -> u16
+        requires accepted { Accepted (exprs_from self.now.depth self.now.unit.now self.now.end at) }
+        requires at_le_end { at ≤ self.now.end }
+        ensures { result ≡ flags_of (exprs_of (list_of (exprs_from self.now.depth self.now.unit.now self.now.end at))) 1 % 2 ^ 16 }
+    {
+        let mut i = at;
+        let mut bit: u16 = 1;
+        let mut flags: u16 = 0;
+        while i < self.end {
+            flags = flags.wrapping_add(bit_if(is_prvalue_ref(self.unit, i), bit));
+            bit = bit.wrapping_add(bit);
+            i = end_of(self.unit, i);
+        }
+        flags
     }
-    flags
-}
 
-// InvokeStatic with the function where any flag bit is set, else InvokeVirtual with the name, for the call at `site`.
-pub fn emit_invoke(
-    s: &[u8],
-    at: usize,
-    end: usize,
-    depth: usize,
-    site: usize,
-    exit: usize,
-    c: &mut Counters,
-    out: &mut [u8],
-)
-    requires called { Called depth s.now end at }
-    requires end_in_bounds { end ≤ length s.now }
-    ensures { Emitted (emit_invoke site (callee_at s.now at).flags exit (callee_at s.now at).line (flags_of (exprs_of (list_of (exprs_from depth s.now end (args_at s.now at)))) 1) (callee_at s.now at).function (callee_at s.now at).name) c.old out.old c.new out.new }
-{
-    let first = at + 16 + wide(s[at + 11]);
-    let flags = flags_of(s, first, end, depth);
-    let line = u16_at(s, at + 8);
-    if s[at + 10] == 0 {
-        let name = u32_at(s, at + 4);
-        c.invoke(site, Tag::InvokeVirtual, exit, line, flags, name, out);
-    } else {
-        let function = u32_at(s, at);
-        c.invoke(site, Tag::InvokeStatic, exit, line, flags, function, out);
+    // InvokeStatic with the function where any flag bit is set, else InvokeVirtual with the name, for the call at `site`.
+    pub fn emit_invoke(&self, at: usize, site: usize, exit: usize, c: &mut Counters, out: &mut [u8])
+        requires { Called self.now.depth self.now.unit.now self.now.end at }
+        ensures { Emitted (emit_invoke site (callee_at self.now.unit.now at).flags exit (callee_at self.now.unit.now at).line (flags_of (exprs_of (list_of (exprs_from self.now.depth self.now.unit.now self.now.end (args_at self.now.unit.now at)))) 1) (callee_at self.now.unit.now at).function (callee_at self.now.unit.now at).name) c.old out.old c.new out.new }
+    {
+        let s = self.unit;
+        let flags = self.flags_of(at + 16 + usize::from(s[at + 11]));
+        let line = u16_at(s, at + 8);
+        if s[at + 10] == 0 {
+            let name = u32_at(s, at + 4);
+            c.invoke(site, Tag::InvokeVirtual, exit, line, flags, name, out);
+        } else {
+            let function = u32_at(s, at);
+            c.invoke(site, Tag::InvokeStatic, exit, line, flags, function, out);
+        }
     }
 }
 
@@ -97,6 +89,7 @@ impl Counters {
         }
     }
 
+    // `weak` is a mark: the definitions take any number.
     pub fn weak_to_ref(&mut self, at: usize, weak: usize, out: &mut [u8])
         ensures { Emitted (weak_to_ref at weak) self.old out.old self.new out.new }
     {

@@ -1,4 +1,4 @@
-// What the walk counts, and the three actions that change it. The counters and one buffer are lent.
+// What the walk counts, the two actions that change it, and the one that reads it. The counters and one buffer are lent.
 ghost use Rattle.std.specs.Prelude.{◌≡◌};
 ghost use Rattle.steps.specs.Counting.{emitted_of, labelled_of, listed, unmarked_at, marked_at};
 ghost use Rattle.steps.specs.Walked.{instr_of};

@@ -6,32 +6,13 @@ ghost use Rattle.steps.specs.Walked.{Accepted, Emits, exprs_from, construct_code
 
 use crate::counters::Counters;
 use crate::pieces::constant;
-use crate::places::{count, end_of};
+use crate::places::{Nodes, end_of};
 use crate::refusals::require;
 use crate::tags::{element_tag, intrinsic_small, intrinsic_tag, local_tag, null_tag, typed};
-use instr::numbers::{byte_at, u32_at, wide};
+use instr::numbers::{byte_at, u32_at};
 use instr::refusals::{Reason, Refusal};
 use instr::tag::Tag;
-use ir::expr;
-
-// Construct, whose arguments have the depth `depth` and end at `stop`.
-pub(crate) fn construct(
-    s: &[u8],
-    at: usize,
-    stop: usize,
-    depth: usize,
-    c: &mut Counters,
-    out: &mut [u8],
-) -> Result<(), Refusal>
-    requires accepted { Accepted (exprs_from depth s.now stop (at + 13)) }
-    requires at_bound { (at + 13 ≤ stop) × (stop ≤ length s.now) }
-    ensures { Emits (construct_code depth s.now stop at) c.old out.old result c.new out.new }
-{
-    let n = count(s, at + 13, stop, depth);
-    require(n < 256, Reason::Construct, at, n)?;
-    c.plain(at, Tag::Construct, n, u32_at(s, at + 5), out);
-    Ok(())
-}
+use ir::expr::ExprKind;
 
 pub(crate) fn intrinsic(
     s: &[u8],
@@ -42,51 +23,65 @@ pub(crate) fn intrinsic(
     requires { (at + 8 ≤ length s.now) × (slice_index s.now (at + 5) < 34) }
     ensures { Emits (intrinsic_code s.now at) c.old out.old result c.new out.new }
 {
-    let code = wide(s[at + 5]);
-    let fits = typed(code, wide(s[at + 6]), wide(s[at + 7]));
+    let code = usize::from(s[at + 5]);
+    let fits = typed(code, usize::from(s[at + 6]), usize::from(s[at + 7]));
     require(fits, Reason::Intrinsic, at, 0)?;
     let i = u32_at(s, at + 8);
     c.plain(at, intrinsic_tag(code), intrinsic_small(code), i, out);
     Ok(())
 }
 
-// The record of the node at `at`.
-pub fn head(
-    s: &[u8],
-    at: usize,
-    end: usize,
-    depth: usize,
-    c: &mut Counters,
-    out: &mut [u8],
-) -> Result<(), Refusal>
-    requires accepted { Accepted (parse_expr depth s.now end at) }
-    requires end_in_bounds { end ≤ length s.now }
-    ensures { Emits (head_code (depth - 1) s.now (end_of s.now at) at) c.old out.old result c.new out.new }
-{
-    let kind = s[at + 4];
-    match kind {
-        expr::NOP => c.plain(at, Tag::Nop, 0, 0, out),
-        expr::CONST => constant(s, at, c, out),
-        expr::NULL => c.plain(at, null_tag(byte_at(s, at + 5)), 0, 0, out),
-        expr::NEW_INSTANCE => c.plain(at, Tag::New, 0, u32_at(s, at + 5), out),
-        expr::CONSTRUCT => return construct(s, at, end_of(s, at), depth - 1, c, out),
-        expr::ASSIGN => c.plain(at, Tag::Assign, 0, 0, out),
-        expr::INDEX => {
-            let t = element_tag(byte_at(s, at + 5));
-            c.plain(at, t, 0, u32_at(s, at + 6), out);
-        }
-        expr::DYN_CAST => {
-            let weak = wide(byte_at(s, at + 9));
-            c.plain(at, Tag::DynamicCast, weak, u32_at(s, at + 5), out);
-        }
-        expr::LOCAL => {
-            let t = local_tag(byte_at(s, at + 5));
-            c.plain(at, t, 0, u32_at(s, at + 6), out);
-        }
-        expr::INTRINSIC_CALL => return intrinsic(s, at, c, out),
-        _ => {}
+impl Nodes<'_> {
+    // Construct, of which these are the arguments.
+    fn construct(&self, at: usize, c: &mut Counters, out: &mut [u8]) -> Result<(), Refusal>
+        requires accepted { Accepted (exprs_from self.now.depth self.now.unit.now self.now.end (at + 13)) }
+        requires at_bound { at + 13 ≤ self.now.end }
+        ensures { Emits (construct_code self.now.depth self.now.unit.now self.now.end at) c.old out.old result c.new out.new }
+    {
+        let n = self.count(at + 13);
+        require(n < 256, Reason::Construct, at, n)?;
+        c.plain(at, Tag::Construct, n, u32_at(self.unit, at + 5), out);
+        Ok(())
     }
-    Ok(())
+
+    // The record of the node at `at`.
+    pub fn head(&self, at: usize, c: &mut Counters, out: &mut [u8]) -> Result<(), Refusal>
+        requires { Accepted (parse_expr self.now.depth self.now.unit.now self.now.end at) }
+        ensures { Emits (head_code (self.now.depth - 1) self.now.unit.now (end_of self.now.unit.now at) at) c.old out.old result c.new out.new }
+    {
+        let s = self.unit;
+        let Ok(kind) = ExprKind::try_from(s[at + 4]) else {
+            return Ok(());
+        };
+        match kind {
+            ExprKind::Nop => c.plain(at, Tag::Nop, 0, 0, out),
+            ExprKind::Const => constant(s, at, c, out),
+            ExprKind::Null => c.plain(at, null_tag(byte_at(s, at + 5)), 0, 0, out),
+            ExprKind::NewInstance => c.plain(at, Tag::New, 0, u32_at(s, at + 5), out),
+            ExprKind::Construct => return self.inner(at).construct(at, c, out),
+            ExprKind::Assign => c.plain(at, Tag::Assign, 0, 0, out),
+            ExprKind::Index => {
+                let t = element_tag(byte_at(s, at + 5));
+                c.plain(at, t, 0, u32_at(s, at + 6), out);
+            }
+            ExprKind::DynCast => {
+                let weak = usize::from(byte_at(s, at + 9));
+                c.plain(at, Tag::DynamicCast, weak, u32_at(s, at + 5), out);
+            }
+            ExprKind::Local => {
+                let t = local_tag(byte_at(s, at + 5));
+                c.plain(at, t, 0, u32_at(s, at + 6), out);
+            }
+            ExprKind::IntrinsicCall => return intrinsic(s, at, c, out),
+            ExprKind::Field
+            | ExprKind::Conditional
+            | ExprKind::FreeCall
+            | ExprKind::StaticCall
+            | ExprKind::InstanceCall
+            | ExprKind::ClosureCall => {}
+        }
+        Ok(())
+    }
 }
 
 // Whether the rule of this kind makes labels. Every other kind is one record and then its parts in order.
@@ -95,13 +90,15 @@ pub fn makes_labels(kind: u8) -> bool
     ensures { result ≡ makes_labels kind }
 {
     matches!(
-        kind,
-        expr::FIELD
-            | expr::CONDITIONAL
-            | expr::FREE_CALL
-            | expr::STATIC_CALL
-            | expr::INSTANCE_CALL
-            | expr::CLOSURE_CALL
+        ExprKind::try_from(kind),
+        Ok(
+            ExprKind::Field
+                | ExprKind::Conditional
+                | ExprKind::FreeCall
+                | ExprKind::StaticCall
+                | ExprKind::InstanceCall
+                | ExprKind::ClosureCall
+        )
     )
 }
 
@@ -110,12 +107,11 @@ pub fn makes_labels(kind: u8) -> bool
 pub(crate) fn parts_from(kind: u8) -> usize
     ensures { (result ≡ parts_from kind) × (result ≤ 16) }
 {
-    match kind {
-        expr::CONSTRUCT => 13,
-        expr::ASSIGN => 5,
-        expr::INDEX => 10,
-        expr::DYN_CAST => 10,
-        expr::INTRINSIC_CALL => 16,
+    match ExprKind::try_from(kind) {
+        Ok(ExprKind::Construct) => 13,
+        Ok(ExprKind::Assign) => 5,
+        Ok(ExprKind::Index | ExprKind::DynCast) => 10,
+        Ok(ExprKind::IntrinsicCall) => 16,
         _ => 0,
     }
 }

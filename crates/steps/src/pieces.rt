@@ -8,7 +8,7 @@ ghost use Rattle.steps.specs.Walked.{Emitted, element_code, const_code};
 
 use crate::counters::Counters;
 use crate::tags::const_tag;
-use instr::numbers::{byte_at, u16_at, u32_at, u64_at, wide};
+use instr::numbers::{byte_at, u16_at, u32_at, u64_at};
 use instr::tables;
 use instr::tag::Tag;
 use ir::expr::const_width;
@@ -31,7 +31,7 @@ pub fn constant(s: &[u8], at: usize, c: &mut Counters, out: &mut [u8])
     requires { (at + 6 ≤ length s.now) × (slice_index s.now (at + 5) < 16) }
     ensures { Emitted (const_code s.now at) c.old out.old c.new out.new }
 {
-    let byte = wide(s[at + 5]);
+    let byte = usize::from(s[at + 5]);
     let value = value_at(s, at + 6, byte);
     c.plain(at, const_tag(byte, value), 0, value as usize, out);
 }
@@ -77,7 +77,7 @@ pub fn init_default(s: &[u8], at: usize, c: &mut Counters, out: &mut [u8])
     ensures { Emitted (emits (default_instrs at (number 4 s.now (at + 5)) (slice_index s.now (at + 9)) (number 4 s.now (at + 10)))) c.old out.old c.new out.new }
 {
     let local = u32_at(s, at + 5);
-    let byte = wide(s[at + 9]);
+    let byte = usize::from(s[at + 9]);
     let i = u32_at(s, at + 10);
     if byte == 0 {
         return;

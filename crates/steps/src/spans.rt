@@ -3,7 +3,7 @@ ghost use Rattle.std.specs.Prelude.{◌≡◌};
 ghost use Rattle.definitions.specs.Lower.{in_loop, in_switch};
 ghost use Rattle.steps.specs.Walked.{span_of};
 
-// Where break and continue go, and the unit's return byte.
+// Where break and continue go, and the unit's return byte, a number as in the definitions.
 #[derive(Clone, Copy, Debug, PartialEq, Eq)]
 pub struct BlockSpan {
     pub break_target: Option<usize>,

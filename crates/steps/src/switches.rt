@@ -29,6 +29,7 @@ impl Counters {
         }
     }
 
+    // `here` is a mark: the definitions take any number, and so does each contract.
     pub fn mark_if(&self, here: usize, label: usize, marks: &mut [u32])
         ensures { MarksIf here label self.now marks.old marks.new }
     {
@@ -44,12 +45,14 @@ pub fn group_after(ends: bool, body: usize) -> Option<usize>
     (!ends).then_some(body)
 }
 
+// `there` is a mark, as above.
 pub fn is_mid(there: usize, index: usize, n: usize) -> bool
     ensures { result ≡ (not (there == 0) && nat_lt index n) }
 {
     there != 0 && index < n
 }
 
+// A mark, as `mark_if` and the default's code take one: the definitions ask there whether a number is 0.
 pub fn is_same(k: usize, index: usize) -> usize
     ensures { result ≡ same_as k index }
 {

@@ -7,6 +7,7 @@ ghost use Rattle.definitions.specs.Lower.{null_tag, element_tag, local_tag};
 use instr::tag::Tag;
 use ir::expr::{CONST_BOOL, CONST_I32};
 
+// This and `element_tag` are no one function: it would be called with both tags, and the definitions' names would go.
 #[tactic(auto, unfolding(definitions::specs::Lower::null_tag))]
 pub fn null_tag(weak: u8) -> Tag
     ensures { byte_of result ≡ null_tag weak }

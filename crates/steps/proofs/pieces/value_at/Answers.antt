@@ -1,4 +1,4 @@
-use Rattle.std.proofs.Common.{rules, ◌∙◌, sym}
+use Rattle.std.proofs.Common.{rules, ◌∙◌}
 use Rattle.instr.proofs.NumberLaws.{one_byte}
 use Rattle.steps.proofs.LeafLaws.{by_width, no_width}
 use Rattle.steps.proofs.pieces.value_at.Goals as goal

@@ -1,4 +1,3 @@
-use Rattle.steps.specs.Walked.{target_of}
 use Rattle.steps.proofs.LeafLaws.{group_closed}
 use Rattle.steps.proofs.switches.group_after.Goals as goal
 

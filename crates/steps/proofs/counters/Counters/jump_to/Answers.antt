@@ -1,4 +1,3 @@
-use Rattle.std.proofs.Common.{sym}
 use Rattle.steps.proofs.StepLaws.{jump_did, no_jump, refuse_did}
 use Rattle.steps.proofs.counters.Counters.jump_to.Goals as goal
 

@@ -1,4 +1,3 @@
-use native.Mathlib.Omega.{arith}
 use Rattle.steps.proofs.StepLaws.{new_made, new_refused}
 use Rattle.steps.proofs.counters.Counters.new_label.Goals as goal
 

@@ -1,4 +1,3 @@
-use Rattle.std.proofs.Common.{refl}
 use Rattle.steps.proofs.StepLaws.{emit_did, plain_is}
 use Rattle.steps.proofs.counters.Counters.plain.Goals as goal
 

@@ -1,6 +1,6 @@
 use Rattle.steps.proofs.StepLaws.{emit_exit}
 use Rattle.steps.proofs.HeadLaws.{constructed, construct_refused}
-use Rattle.steps.proofs.heads.construct.Goals as goal
+use Rattle.steps.proofs.places.Nodes.construct.Goals as goal
 
 pub returns-in_err-require : goal.returns-in_err-require
 returns-in_err-require c = emit_exit _ _ c.from_residual.ensures.1 _ (construct_refused _ _ _ _ _ c.count-n.ensures (c.in_err-require.ensures c.args.c.now))

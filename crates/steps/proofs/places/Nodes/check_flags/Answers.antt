@@ -3,7 +3,7 @@ use Rattle.steps.specs.declared.counters.Counters.{Counters}
 use Rattle.steps.proofs.RunLaws.{expr_placed}
 use Rattle.steps.proofs.StepLaws.{left_exit}
 use Rattle.steps.proofs.FlagLaws.{flags_next, flags_end, flags_stop, arg_turn}
-use Rattle.steps.proofs.calls.check_flags.Goals as goal
+use Rattle.steps.proofs.places.Nodes.check_flags.Goals as goal
 
 -- the invariant of some counters
 abbrev some : Counters

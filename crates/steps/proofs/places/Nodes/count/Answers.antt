@@ -1,9 +1,9 @@
 use Rattle.std.proofs.Common.{arith}
 use Rattle.steps.proofs.RunLaws.{count_start, count_turn, count_next, count_end, expr_placed}
-use Rattle.steps.proofs.places.count.Goals as goal
+use Rattle.steps.proofs.places.Nodes.count.Goals as goal
 
 pub loop-i-init : goal.loop-i-init
-loop-i-init c = count_start _ _ _ _ c.requires.accepted c.requires.at_le_end.0
+loop-i-init c = count_start _ _ _ _ c.requires.accepted c.requires.at_le_end
 
 pub end_of-i-requires : goal.end_of-i-requires
 end_of-i-requires c = omega (arith, (expr_placed _ _ _ _ (count_turn c.loop-i.invariant c.loop-i-test.true).reads).0, c.requires.at_le_end)
