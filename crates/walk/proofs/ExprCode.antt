@@ -15,7 +15,23 @@ use Rattle.ir.specs.Places.{end_of, ExprAt, RunAt, CallAt}
 use Rattle.ir.specs.declared.Class.TheVariants.{Expression}
 use Rattle.ir.proofs.Inversion.{expr_at}
 use Rattle.ir.proofs.ExprPlaces.{instance_call_at, closure_call_at, field_at, conditional_at, free_call_at, static_call_at}
-use Rattle.steps.specs.Walked.{Accepted, code_of, list_of, expr_code, fill_code, exprs_from, args_at, args_code, callee_at, marks_from, call_code, Called}
+use Rattle.ir.specs.Kinds.{IsUnlisted}
+use Rattle.ir.specs.Kinds as codes
+use Rattle.ir.specs.declared.expr.ExprKind.{ExprKind}
+use Rattle.ir.specs.declared.expr.ExprKind.TheVariants as kinds
+use mathlib.Core.Bool.{true, true≢false}
+use mathlib.Core.Logic.{inl, inr}
+use Rattle.steps.proofs.HeadLaws.{no_labels}
+use Rattle.steps.proofs.RunLaws.{expr_placed, listed}
+use Rattle.steps.specs.Walked.{Accepted, code_of, list_of, expr_code, fill_code, exprs_from, args_at, args_code, callee_at, marks_from, call_code, Called, makes_labels}
+
+-- the holder of depth d, which ends at `stop` in u, is the node at `at` in a holder of depth `depth` in s
+abbrev pub Within : (depth : ℕ) (s : List ℕ) (at d : ℕ) (u : List ℕ) (stop : ℕ) → Type 0
+Within depth s at d u stop = (u ≡ s) × (stop ≡ end_of s at) × (d ≡ depth - 1)
+
+-- an expression that is read, as a holder
+pub inner_fits : (d : ℕ) (s : List ℕ) (end at : ℕ) → Accepted (parse_expr d s end at) → end ≤ length s → (0 < d) × (at + 4 ≤ length s) × (end_of s at ≤ length s)
+inner_fits d s end at acc h = let z = expr_placed d s end at acc.2 in (omega (arith, z.0), omega (arith, z.0, h), omega (arith, z.0, h))
 
 -- a child that is read, within its holder
 pub record Here (d : ℕ) (s : List ℕ) (holder at next : ℕ) : Type 0 where
@@ -77,34 +93,34 @@ module _ (depth : ℕ) (s : List ℕ) (end at : ℕ) (acc : Accepted (parse_expr
   whole : expr_code depth s end at ≡ lower_expr acc.0
   whole = code_of_law depth s end at acc.0 acc.1 acc.2
 
-  module _ (stop : ℕ) (e : stop ≡ end_of s at) where
-    reads : parse_expr depth s end at ≡ ok acc.0 stop
-    reads = let k = expr_at depth s end at acc.2 in acc.2 ∙ ap (ok acc.0) (k.ends ∙ sym e)
+  module _ (d : ℕ) (u : List ℕ) (stop : ℕ) where
+    reads : Within depth s at d u stop → parse_expr depth s end at ≡ ok acc.0 stop
+    reads e = let k = expr_at depth s end at acc.2 in acc.2 ∙ ap (ok acc.0) (k.ends ∙ sym e.1)
 
     -- a field: its form, its name and the object or struct
     pub record FieldHere (form name : ℕ) : Type 0 where
-      pub one : Here (depth - 1) s stop (at + 10) stop
-      pub code : expr_code depth s end at ≡ lower_field at form name (expr_code (depth - 1) s stop (at + 10))
+      pub one : Here d u stop (at + 10) stop
+      pub code : expr_code depth s end at ≡ lower_field at form name (expr_code d u stop (at + 10))
 
-    pub field_here : (form name : ℕ) → form ≡ get_or s (at + 5) 0 → name ≡ number 4 s (at + 6) → get_or s (at + 4) 0 ≡ 7 → FieldHere form name
+    pub field_here : Within depth s at d u stop → (form name : ℕ) → form ≡ get_or s (at + 5) 0 → name ≡ number 4 s (at + 6) → get_or s (at + 4) 0 ≡ 7 → FieldHere form name
     unfolding lower_expr
-    field_here form name f n kind =
-        let k = field_at depth s end at acc.0 stop reads kind in
-        rw (f, n) (record { one = here k.one; code = whole ∙ ap lower_expr k.tree ∙ ap (lower_field at (get_or s (at + 5) 0) (number 4 s (at + 6))) (child k.one) })
+    field_here e form name f n kind =
+        let k = field_at depth s end at acc.0 stop (reads e) kind in
+        rw (e.0, e.2, f, n) (record { one = here k.one; code = whole ∙ ap lower_expr k.tree ∙ ap (lower_field at (get_or s (at + 5) 0) (number 4 s (at + 6))) (child k.one) })
 
     -- an instance call: its receiver, then the function at `second`
     pub record InstanceHere (weak second : ℕ) : Type 0 where
-      pub one : Here (depth - 1) s stop (at + 6) second
-      pub call : Called (depth - 1) s stop second
+      pub one : Here d u stop (at + 6) second
+      pub call : Called d u stop second
       pub code : expr_code depth s end at ≡
-          (label at λ exit. jump at Context exit then weak_to_ref at weak then expr_code (depth - 1) s stop (at + 6) then call_code (depth - 1) s stop second at then act (mark exit))
+          (label at λ exit. jump at Context exit then weak_to_ref at weak then expr_code d u stop (at + 6) then call_code d u stop second at then act (mark exit))
 
-    pub instance_here : (weak second : ℕ) → weak ≡ get_or s (at + 5) 0 → second ≡ end_of s (at + 6) → get_or s (at + 4) 0 ≡ 15 → InstanceHere weak second
+    pub instance_here : Within depth s at d u stop → (weak second : ℕ) → weak ≡ get_or s (at + 5) 0 → second ≡ end_of s (at + 6) → get_or s (at + 4) 0 ≡ 15 → InstanceHere weak second
     unfolding lower_expr
-    instance_here weak second f e2 kind =
-        let k = instance_call_at depth s end at acc.0 stop reads kind in
+    instance_here e weak second f e2 kind =
+        let k = instance_call_at depth s end at acc.0 stop (reads e) kind in
         let a : k.second ≡ second = k.one.ends ∙ sym e2 in
-        rw (← a, f) (record {
+        rw (e.0, e.2, ← a, f) (record {
           one = here k.one;
           call = called k.call;
           code = whole ∙ ap lower_expr k.tree ∙ ap (λ c. label at λ exit. jump at Context exit then weak_to_ref at (get_or s (at + 5) 0) then lower_expr k.receiver then c then act (mark exit)) (sym (call_code_law at k.call)) ∙ rw (child k.one);
@@ -112,52 +128,82 @@ module _ (depth : ℕ) (s : List ℕ) (end at : ℕ) (acc : Accepted (parse_expr
 
     -- a closure call: the closure, its name and line at `second`, its arguments
     pub record ClosureHere (span : BlockSpan) (second name line : ℕ) : Type 0 where
-      pub one : Here (depth - 1) s stop (at + 5) second
+      pub one : Here d u stop (at + 5) second
       pub fits : second + 10 ≤ stop
-      pub run : Accepted (exprs_from (depth - 1) s stop (second + 10))
+      pub run : Accepted (exprs_from d u stop (second + 10))
       pub code : expr_code depth s end at ≡
-          (label at λ context. jump at Context context then expr_code (depth - 1) s stop (at + 5) then act (mark context) then
-          label at λ exit. invoke at InvokeVirtual exit line 0 name then fill_code Expression (depth - 1) s stop (second + 10) span then instr at ParamEnd 0 then act (mark exit))
+          (label at λ context. jump at Context context then expr_code d u stop (at + 5) then act (mark context) then
+          label at λ exit. invoke at InvokeVirtual exit line 0 name then fill_code Expression d u stop (second + 10) span then instr at ParamEnd 0 then act (mark exit))
 
-    pub closure_here : (span : BlockSpan) (second name line : ℕ) → second ≡ end_of s (at + 5) → name ≡ number 4 s second → line ≡ number 2 s (second + 4) → get_or s (at + 4) 0 ≡ 16 → ClosureHere span second name line
+    pub closure_here : Within depth s at d u stop → (span : BlockSpan) (second name line : ℕ) → second ≡ end_of s (at + 5) → name ≡ number 4 s second → line ≡ number 2 s (second + 4) → get_or s (at + 4) 0 ≡ 16 → ClosureHere span second name line
     unfolding lower_expr code_of
-    closure_here span second name line e2 f g kind =
-        let k = closure_call_at depth s end at acc.0 stop reads kind in
+    closure_here e span second name line e2 f g kind =
+        let k = closure_call_at depth s end at acc.0 stop (reads e) kind in
         let a : k.second ≡ second = k.one.ends ∙ sym e2 in
         let r = run_at (depth - 1) (k.second + 6) (k.second + 10) (omega arith) k.run in
         let q : exprs_from (depth - 1) s stop (k.second + 10) ≡ ok k.args stop = let z : k.second + 6 + 4 ≡ k.second + 10 = omega arith in rw z at k.run.reads in
-        rw (f, g, ← a) (record { one = here k.one; fits = r.0; run = r.1; code = whole ∙ ap lower_expr k.tree ∙ rw (child k.one, q) })
+        rw (e.0, e.2, f, g, ← a) (record { one = here k.one; fits = r.0; run = r.1; code = whole ∙ ap lower_expr k.tree ∙ rw (child k.one, q) })
 
     -- a function and its arguments
-    pub free_call_here : get_or s (at + 4) 0 ≡ 13 → Called (depth - 1) s stop (at + 5) × (expr_code depth s end at ≡ call_code (depth - 1) s stop (at + 5) at)
+    pub free_call_here : Within depth s at d u stop → get_or s (at + 4) 0 ≡ 13 → Called d u stop (at + 5) × (expr_code depth s end at ≡ call_code d u stop (at + 5) at)
     unfolding lower_expr
-    free_call_here kind =
-        let k = free_call_at depth s end at acc.0 stop reads kind in
-        (called k.call, whole ∙ ap lower_expr k.tree ∙ sym (call_code_law at k.call))
+    free_call_here e kind =
+        let k = free_call_at depth s end at acc.0 stop (reads e) kind in
+        rw (e.0, e.2) (called k.call, whole ∙ ap lower_expr k.tree ∙ sym (call_code_law at k.call))
 
-    pub static_call_here : get_or s (at + 4) 0 ≡ 14 → Called (depth - 1) s stop (at + 5) × (expr_code depth s end at ≡ (label at λ exit. call_code (depth - 1) s stop (at + 5) at then act (mark exit)))
+    pub static_call_here : Within depth s at d u stop → get_or s (at + 4) 0 ≡ 14 → Called d u stop (at + 5) × (expr_code depth s end at ≡ (label at λ exit. call_code d u stop (at + 5) at then act (mark exit)))
     unfolding lower_expr
-    static_call_here kind =
-        let k = static_call_at depth s end at acc.0 stop reads kind in
-        (called k.call, whole ∙ ap lower_expr k.tree ∙ ap (λ c. label at λ exit. c then act (mark exit)) (sym (call_code_law at k.call)))
+    static_call_here e kind =
+        let k = static_call_at depth s end at acc.0 stop (reads e) kind in
+        rw (e.0, e.2) (called k.call, whole ∙ ap lower_expr k.tree ∙ ap (λ c. label at λ exit. c then act (mark exit)) (sym (call_code_law at k.call)))
 
     -- three expressions
     pub record ConditionalHere (second third : ℕ) : Type 0 where
-      pub one : Here (depth - 1) s stop (at + 5) second
-      pub two : Here (depth - 1) s stop second third
-      pub three : Here (depth - 1) s stop third stop
+      pub one : Here d u stop (at + 5) second
+      pub two : Here d u stop second third
+      pub three : Here d u stop third stop
       pub code : expr_code depth s end at ≡
           (label at λ else. label at λ exit.
-          jumps at Conditional else exit then expr_code (depth - 1) s stop (at + 5) then expr_code (depth - 1) s stop second then
-          act (mark else) then expr_code (depth - 1) s stop third then act (mark exit))
+          jumps at Conditional else exit then expr_code d u stop (at + 5) then expr_code d u stop second then
+          act (mark else) then expr_code d u stop third then act (mark exit))
 
-    pub conditional_here : (second third : ℕ) → second ≡ end_of s (at + 5) → third ≡ end_of s second → get_or s (at + 4) 0 ≡ 9 → ConditionalHere second third
+    pub conditional_here : Within depth s at d u stop → (second third : ℕ) → second ≡ end_of s (at + 5) → third ≡ end_of s second → get_or s (at + 4) 0 ≡ 9 → ConditionalHere second third
     unfolding lower_expr
-    conditional_here second third e2 e3 kind =
-        let k = conditional_at depth s end at acc.0 stop reads kind in
+    conditional_here e second third e2 e3 kind =
+        let k = conditional_at depth s end at acc.0 stop (reads e) kind in
         let a : k.second ≡ second = k.one.ends ∙ sym e2 in
         let b : k.third ≡ third = k.two.ends ∙ ap (end_of s) a ∙ sym e3 in
-        rw (← a, ← b) (record { one = here k.one; two = here k.two; three = here k.three; code = whole ∙ ap lower_expr k.tree ∙ rw (child k.one, child k.two, child k.three) })
+        rw (e.0, e.2, ← a, ← b) (record { one = here k.one; two = here k.two; three = here k.three; code = whole ∙ ap lower_expr k.tree ∙ rw (child k.one, child k.two, child k.three) })
+
+-- the kinds whose rules make labels
+
+pub no_kind : (k : ℕ) → makes_labels k ≡ true → IsUnlisted 16 k → ⊥
+no_kind k m (inl z) = true≢false (sym m ∙ no_labels k ((((((tt, λ q. omega (arith, q, z)), λ q. omega (arith, q, z)), λ q. omega (arith, q, z)), λ q. omega (arith, q, z)), λ q. omega (arith, q, z)), λ q. omega (arith, q, z)))
+no_kind k m (inr l) = true≢false (sym m ∙ no_labels k ((((((tt, λ q. omega (arith, q, l)), λ q. omega (arith, q, l)), λ q. omega (arith, q, l)), λ q. omega (arith, q, l)), λ q. omega (arith, q, l)), λ q. omega (arith, q, l)))
+
+no_other : (kind : ExprKind) → makes_labels (codes.expr_code kind) ≡ true → (kind ≡ kinds.Field → ⊥) → (kind ≡ kinds.Conditional → ⊥) → (kind ≡ kinds.FreeCall → ⊥) → (kind ≡ kinds.StaticCall → ⊥) →
+    (kind ≡ kinds.InstanceCall → ⊥) → (kind ≡ kinds.ClosureCall → ⊥) → ⊥
+unfolding makes_labels
+no_other kinds.Nop m _ _ _ _ _ _ = true≢false (sym m)
+no_other kinds.Const m _ _ _ _ _ _ = true≢false (sym m)
+no_other kinds.Null m _ _ _ _ _ _ = true≢false (sym m)
+no_other kinds.NewInstance m _ _ _ _ _ _ = true≢false (sym m)
+no_other kinds.Construct m _ _ _ _ _ _ = true≢false (sym m)
+no_other kinds.Assign m _ _ _ _ _ _ = true≢false (sym m)
+no_other kinds.Field m a _ _ _ _ _ = a refl
+no_other kinds.Index m _ _ _ _ _ _ = true≢false (sym m)
+no_other kinds.Conditional m _ a _ _ _ _ = a refl
+no_other kinds.DynCast m _ _ _ _ _ _ = true≢false (sym m)
+no_other kinds.Local m _ _ _ _ _ _ = true≢false (sym m)
+no_other kinds.IntrinsicCall m _ _ _ _ _ _ = true≢false (sym m)
+no_other kinds.FreeCall m _ _ a _ _ _ = a refl
+no_other kinds.StaticCall m _ _ _ a _ _ = a refl
+no_other kinds.InstanceCall m _ _ _ _ a _ = a refl
+no_other kinds.ClosureCall m _ _ _ _ _ a = a refl
+
+pub other_kind : (kind : ExprKind) (k : ℕ) → codes.expr_code kind ≡ k → makes_labels k ≡ true → (kind ≡ kinds.Field → ⊥) → (kind ≡ kinds.Conditional → ⊥) → (kind ≡ kinds.FreeCall → ⊥) → (kind ≡ kinds.StaticCall → ⊥) →
+    (kind ≡ kinds.InstanceCall → ⊥) → (kind ≡ kinds.ClosureCall → ⊥) → ⊥
+other_kind kind k e m = no_other kind (ap makes_labels e ∙ m)
 
 -- the two forms of a field
 
@@ -180,6 +226,11 @@ pub call_parts : (d : ℕ) (s : List ℕ) (end p site n first : ℕ) → n ≡ g
     args_code d s end first site (marks_from s (p + 12) n) then instr site ParamEnd 0 then act (mark exit))
 unfolding code_of list_of emit_call callee_at
 call_parts d s end p site n first e f k = rw (f, e, k.reads)
+
+-- what a call asks of its arguments
+pub call_fits : (d : ℕ) (s : List ℕ) (end p n : ℕ) → n ≡ get_or s (p + 11) 0 → Called d s end p →
+    Accepted (exprs_from d s end (p + 16 + n)) × ((p + 16 + n ≤ end) × (p + 12 + n ≤ p + 16 + n) × (length (list_of (exprs_from d s end (p + 16 + n))) ≤ n))
+call_fits d s end p n e k = rw e ((k.args, end, k.reads), (k.fits, omega arith, omega (arith, k.enough, ap length (listed _ _ _ k.reads))))
 
 -- an argument
 

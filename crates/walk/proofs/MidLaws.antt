@@ -22,11 +22,11 @@ use Rattle.ir.proofs.Inversion.{fill_none}
 use Rattle.ir.proofs.StmtPlaces.{arm_moves}
 use Rattle.instr.specs.declared.refusals.Refusal.{Refusal}
 use Rattle.steps.specs.Running.{run, move}
-use Rattle.steps.specs.Walked.{Accepted, DefaultHere, Cased, arms_from, cases_from, list_of, code_of, ran, labels_of, default_from, default_of, default_answer, mid_code, inside_code, fill_code, mark_if, same_as, Ran, EmittedFrom, LabelledFrom, Walk}
+use Rattle.steps.specs.Walked.{Accepted, DefaultHere, Cased, arms_from, cases_from, list_of, code_of, labels_of, default_from, default_of, default_answer, mid_code, inside_code, fill_code, mark_if, same_as, Ran, EmittedFrom, LabelledFrom, Walk}
 use Rattle.laws.proofs.Results.{onward_assoc, onward_same}
 use Rattle.laws.proofs.Trees.{length_cases_law}
 use Rattle.steps.proofs.StepLaws.{fresh, labelled, emit_stays, emitted, recode, rerun, both, nothing, stays, SameRun}
-use Rattle.steps.proofs.RunLaws.{Goes, goes_on, one_step, renamed, goes_last, goes_end, Rest, rest_next, rest_end, Turn, turn, listed}
+use Rattle.steps.proofs.RunLaws.{Goes, goes_on, one_step, renamed, goes_end, Rest, rest_next, rest_end, Turn, turn, listed}
 use Rattle.walk.proofs.StmtCode.{ArmHere, arm_here, no_default_code, some_default, default_some, block_code}
 use Rattle.walk.proofs.CaseLaws.{skip_step, arm_of, arm_ends, arm_code_is, bodies_from, bodies_below, bodies_at, bodies_above}
 
@@ -37,9 +37,6 @@ pub record ArmsCount (d : ℕ) (s : List ℕ) (end at i n : ℕ) : Type 0 where
   pub to : i ≤ end
   pub few : n ≤ i
   pub same : n + length (list_of (arms_from d s end i)) ≡ length (list_of (arms_from d s end at))
-
-pub arms_count_start : (d : ℕ) (s : List ℕ) (end at : ℕ) → Accepted (arms_from d s end at) → at ≤ end → ArmsCount d s end at at 0
-arms_count_start d s end at a h = record { acc = a; to = h; few = omega arith; same = omega arith }
 
 module _ {d : ℕ} {s : List ℕ} {end at i n : ℕ} (r : ArmsCount d s end at i n) (h : i < end) where
   arms_count_turn : Turn (arm_of d s) end i r.acc.0 r.acc.1

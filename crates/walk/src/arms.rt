@@ -1,20 +1,24 @@
 // The arms of Branches and Switch.
-ghost use Rattle.std.specs.Prelude.{◌≡◌, ◌≤◌, length};
-ghost use Rattle.steps.specs.Walked.{Accepted, list_of, arms_from};
-
+use super::holders::Holder;
 use steps::places::end_of;
 
-pub fn count_arms(s: &[u8], at: usize, end: usize, depth: usize) -> usize
-    requires accepted { Accepted (arms_from depth s.now end at) }
-    requires at_le_end { (at ≤ end) × (end ≤ length s.now) }
-    ensures { result ≡ length (list_of (arms_from depth s.now end at)) }
-{
-    let mut i = at;
-    let mut n = 0;
-    while i < end {
-        let second = end_of(s, i);
-        i = end_of(s, second);
-        n += 1;
+impl Holder<'_> {
+    ghost use Rattle.std.specs.Prelude.{◌≡◌, ◌≤◌, length};
+    ghost use Rattle.steps.specs.Walked.{Accepted, list_of, arms_from};
+
+    // How many there are from `at` on.
+    pub(crate) fn count_arms(&self, at: usize) -> usize
+        requires accepted { Accepted (arms_from self.now.nodes.depth self.now.nodes.unit.now self.now.nodes.end at) }
+        requires at_le_end { at ≤ self.now.nodes.end }
+        ensures { result ≡ length (list_of (arms_from self.now.nodes.depth self.now.nodes.unit.now self.now.nodes.end at)) }
+    {
+        let mut i = at;
+        let mut n = 0;
+        while i < self.nodes.end {
+            let second = end_of(self.nodes.unit, i);
+            i = end_of(self.nodes.unit, second);
+            n += 1;
+        }
+        n
     }
-    n
 }

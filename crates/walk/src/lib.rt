@@ -1,5 +1,7 @@
-// The lowering walk over a unit that was read: nodes, and the arms of a switch.
+// The lowering walk over a unit that was read: expressions, statements, and what holds them.
 #![tactic(auto)]
 
 mod arms;
+mod exprs;
+mod holders;
 pub mod nodes;
