@@ -1,14 +1,12 @@
 -- For each kind of expression: where its fields are in range and its children are found, it is found. Assumes nothing.
--- What a function is given comes as the code has it: `Or0` of what was found, so that a 0 that was handed on needs no test.
-use Prim.Native.Nat.{ℕ, zero, suc, ◌+◌, ◌-◌, ◌≤◌, ◌<◌}
+use Prim.Native.Nat.{ℕ, zero, suc, min, ◌+◌, ◌-◌, ◌≤◌, ◌<◌}
 use mathlib.Core.Path.{◌≡◌, refl, sym, ap, ◌∙◌}
-use mathlib.Core.Bool.{Bool, true, false, cond, ◌&&◌, true≢false}
+use mathlib.Core.Bool.{Bool, true, false, ◌&&◌}
 use mathlib.Core.List.{List, [], ◌∷◌}
-use mathlib.Core.Logic.{inl, inr}
 use native.Mathlib.Omega.{arith}
-use lib.Dec.{eqb, leb}
+use lib.Dec.{eqb}
 use lib.ListN.{length, get_or}
-use borrow.Author.Tests.{le-leb, leb-true, lt-ltb, eq-eqb, eqb-true}
+use borrow.Author.Tests.{le-leb, lt-ltb, eq-eqb, eqb-true}
 use Rattle.definitions.specs.Answer.{ok}
 use Rattle.definitions.specs.Bytes.{number}
 use Rattle.definitions.specs.Tag.{intrinsic_of}
@@ -16,42 +14,19 @@ use Rattle.definitions.specs.Tree.{Callee, Expr, Exprs, nop, const, null, new_in
 use Rattle.definitions.specs.Read.{Parser, ◌>>=◌, give, span, head, ended, filling, run, pick, callee, arguments, as_nop, as_null, as_new_instance, as_construct, as_assign, as_field, as_index, as_conditional, as_dyn_cast, as_local, as_intrinsic, as_free_call, as_static_call, as_instance_call, as_closure_call, expr_kinds, expr_body, parse_expr}
 use Rattle.definitions.specs.Code.{Code}
 use Rattle.definitions.specs.Lower.{weak_to_ref, lower_field, emit_invoke, emit_call, require_flags, lower_expr, lower_exprs}
-use Rattle.ir.specs.Kinds.{expr_code}
-use Rattle.ir.specs.declared.expr.ExprKind.{ExprKind}
 use Rattle.laws.proofs.Trees.{length_exprs_law}
 use Rattle.steps.proofs.RunLaws.{marks_long}
 use Rattle.steps.specs.Walked.{marks_from, callee_at}
-use Rattle.scan.specs.Scanned.{Tame, Each, Or0, ConstAt, ExprAt, BodyAt, RunAt, ArgsAt, CallAt, all_marks}
+use Rattle.scan.specs.Scanned.{Tame, Each, ConstAt, ExprAt, BodyAt, RunAt, ArgsAt, CallAt, all_marks, Paid}
+use Rattle.scan.specs.declared.fields.Left.{Left}
 use Rattle.scan.proofs.TameLaws.{tame_more, tame_done, tame_emit, tame_mark, tame_then, tame_label, tame_require}
-use Rattle.scan.proofs.FieldLaws.{step, passed, node_in, number_in, byte_in, below_in, marks_in}
+use Rattle.scan.proofs.FieldLaws.{step, passed, node_in, number_in, byte_in, below_in, marks_in, first}
 
--- 1. What was found
-
-pub found : {r : ℕ} {T : Type 0} → Or0 r T → 0 < r → T
-found (inl e) h = absurd (omega (arith, e, h))
-found (inr t) h = t
-
--- 0 is handed on, and what is found leads to more
-pub handed : {r : ℕ} {T U : Type 0} → Or0 r T → (T → U) → Or0 r U
-handed (inl e) f = inl e
-handed (inr t) f = inr (f t)
-
-pub within : {d : ℕ} {s : List ℕ} {end at r k l k' l' : ℕ} → Or0 r (ExprAt d s end at r k l k' l') → r ≤ end
-within (inl e) = omega (arith, e)
-within (inr t) = t.place.2
-
--- so much was paid
-pub paid : (left left' k : ℕ) (r : Bool) → (r ≡ leb k left) × (left' ≡ cond r (left - k) left) → r ≡ true → left' + k ≡ left
-paid left left' k true e q = omega (arith, leb-true k left (sym e.0), e.1)
-paid left left' k false e q = absurd (true≢false (sym q))
+-- 1. Fields
 
 -- w bytes of fields, of which the one at k is below a bound
 abbrev pub FieldsAt : (s : List ℕ) (at stop w k bound r : ℕ) → Type 0
-FieldsAt s at stop w k bound r = (r ≡ at + w) × (at + w ≤ stop) × (get_or s (at + k) 0 < bound)
-
-pub fields_in : {r p stop : ℕ} {X : Type 0} → Or0 r ((r ≡ p) × (p ≤ stop) × X) → r ≤ stop
-fields_in (inl e) = omega (arith, e)
-fields_in (inr t) = omega (arith, t.0, t.1)
+FieldsAt s at stop w k bound r = (r ≡ at + w) × (r ≤ stop) × (get_or s (at + k) 0 < bound)
 
 -- 2. Pieces of code
 
@@ -107,293 +82,252 @@ params_are : (s : List ℕ) (p a n : ℕ) → a ≡ p + 12 → n ≡ get_or s (p
 unfolding callee_at
 params_are s p a n e f = rw (e, f)
 
-pub call_found : {d : ℕ} {s : List ℕ} {stop p a n z r k l k₁ l₁ k₂ l₂ : ℕ} → 0 < p → Or0 a (FieldsAt s p stop 12 10 16 a) → 0 < a → n ≡ get_or s (p + 11) 0 → a + n ≤ stop → all_marks s a n
-    → Or0 z ((span s stop (a + n) ≡ ok z (a + n + 4)) × (a + n + 4 ≤ z) × (z ≤ stop)) → z ≡ stop → k₁ + 1 ≡ k → l₁ + 1 ≡ l
-    → Or0 r ((r ≡ stop) × ArgsAt d s stop (a + n + 4) a n k₁ l₁ k₂ l₂) → Or0 r (CallAt d s stop p r k l k₂ l₂)
-call_found h f q e i m u o x y (inl z) = inl z
-call_found {d} {s} {stop} {p} {a} {n} h f q e i m u o x y (inr z) =
-    let g = found f q in
-    let v : (span s stop (a + n) ≡ ok stop (a + n + 4)) × (a + n + 4 ≤ stop) × (stop ≤ stop) = rw o at (found u (omega (arith, i, q, o))) in
-    let w = z.1 in
-    let first : a + n ≡ p + 12 + get_or s (p + 11) 0 = omega (arith, g.0, e) in
-    let ten : get_or s (p + 10) 0 < 16 = g.2 in
-    let params : (callee_at s p).params ≡ marks_from s a n = params_are s p a n g.0 e in
+pub call_found : {d : ℕ} {s : List ℕ} {stop p a b n y z : ℕ} {u u₁ u₂ : Left} → FieldsAt s p stop 12 10 16 a → n ≡ get_or s (p + 11) 0 → (b ≡ a + n) × (b ≤ stop) × all_marks s a n
+    → (span s stop b ≡ ok z (b + 4)) × (b + 4 ≤ z) × (z ≤ stop) → (y ≡ z) × (z ≡ stop) → Paid u u₁ 1 1 → ArgsAt d s stop (b + 4) a n u₁ u₂ → CallAt d s stop p stop u u₂
+call_found {d} {s} {stop} {p} {a} {b} {n} f e m v o u g =
+    let first : b ≡ p + 12 + get_or s (p + 11) 0 = omega (arith, f.0, e, m.0) in
+    let params : (callee_at s p).params ≡ marks_from s a n = params_are s p a n f.0 e in
     let long : length (callee_at s p).params ≡ n = ap length params ∙ marks_long s a n in
-    let marks : all_marks s (p + 12) (get_or s (p + 11) 0) = rw (g.0, e) at m in
-    inr (rw z.0 (record {
+    let marks : all_marks s (p + 12) (get_or s (p + 11) 0) = rw (f.0, e) at m.2 in
+    record {
       function = callee_at s p;
-      args = exprs_of w.trees;
-      first = a + n;
-      callee = λ site. rw first (callee_in s site stop p (omega (arith, i, first)) ten marks);
-      reads = λ site. arguments_in s (parse_expr d s) site stop (length (callee_at s p).params) (a + n) w.trees (run_in s stop (parse_expr d s) (a + n) v.0 w.reads) (omega (arith, long, w.few));
-      records = 1 + w.records;
-      labels = 1 + w.labels;
-      paid = (omega (arith, x, w.paid.0), omega (arith, y, w.paid.1));
-      tame = λ site. call_tame site (callee_at s p) (exprs_of w.trees) w.flags (rw params (w.tame site));
-      place = h;
-    }))
+      args = exprs_of g.trees;
+      first = b;
+      callee = λ site. rw first (callee_in s site stop p (omega (arith, m.1, first)) f.2 marks);
+      reads = λ site. arguments_in s (parse_expr d s) site stop (length (callee_at s p).params) b g.trees (run_in s stop (parse_expr d s) b (rw o.1 at v.0) g.reads) (omega (arith, long, g.few));
+      records = 1 + g.records;
+      labels = 1 + g.labels;
+      paid = (omega (arith, u.0, g.paid.0), omega (arith, u.1, g.paid.1));
+      tame = λ site. call_tame site (callee_at s p) (exprs_of g.trees) g.flags (rw params (g.tame site));
+    }
 
 -- 4. Kinds
-
-pub code_is : {kind k : ExprKind} {code : ℕ} → expr_code kind ≡ code → kind ≡ k → code ≡ expr_code k
-code_is e h = sym e ∙ ap expr_code h
 
 -- the kind by its number
 kind_is : (d : ℕ) (s : List ℕ) (stop at n : ℕ) {e : Expr} {r : ℕ} → get_or s (at + 4) 0 ≡ n → expr_body s (parse_expr d s) n at stop (at + 5) ≡ ok e r → expr_body s (parse_expr d s) (get_or s (at + 4) 0) at stop (at + 5) ≡ ok e r
 kind_is d s stop at n q h = rw q h
 
--- the same body, where a join gives other names to what is left
-pub moved : {d : ℕ} {s : List ℕ} {stop at r r' k l k₁ l₁ k₂ l₂ : ℕ} → k₂ ≡ k₁ → l₂ ≡ l₁ → r' ≡ r → Or0 r (BodyAt d s stop at r k l k₁ l₁) → Or0 r' (BodyAt d s stop at r' k l k₂ l₂)
-moved e f g h = rw (e, f, g) h
-
-pub nop_found : {d : ℕ} {s : List ℕ} {stop at r k l : ℕ} → get_or s (at + 4) 0 ≡ 1 → r ≡ at + 5 → Or0 r (BodyAt d s stop at r k l k l)
+pub nop_found : {d : ℕ} {s : List ℕ} {stop at : ℕ} {u : Left} → get_or s (at + 4) 0 ≡ 1 → BodyAt d s stop at (at + 5) u u
 unfolding expr_body expr_kinds pick as_nop give lower_expr
-nop_found {d} {s} {stop} {at} q e = inr (record {
+nop_found {d} {s} {stop} {at} q = record {
   tree = nop at;
-  reads = kind_is d s stop at 1 q (ap (ok (nop at)) (sym e));
+  reads = kind_is d s stop at 1 q refl;
   records = 0;
   labels = 0;
   paid = (omega arith, omega arith);
   tame = tame_more tame_emit (omega arith) (omega arith);
-})
+}
 
-pub const_found : {d : ℕ} {s : List ℕ} {stop at r k l : ℕ} → get_or s (at + 4) 0 ≡ 2 → Or0 r (ConstAt s stop (at + 5) r) → Or0 r (BodyAt d s stop at r k l k l)
+pub const_found : {d : ℕ} {s : List ℕ} {stop at r : ℕ} {u : Left} → get_or s (at + 4) 0 ≡ 2 → ConstAt s stop (at + 5) r → BodyAt d s stop at r u u
 unfolding expr_body expr_kinds pick lower_expr
-const_found q (inl e) = inl e
-const_found {d} {s} {stop} {at} q (inr f) = inr (record {
+const_found {d} {s} {stop} {at} q f = record {
   tree = const at f.byte f.value;
   reads = kind_is d s stop at 2 q (f.reads at);
   records = 0;
   labels = 0;
   paid = (omega arith, omega arith);
   tame = tame_more tame_emit (omega arith) (omega arith);
-})
+}
 
--- a field at the first place
-pub first : (s : List ℕ) (at : ℕ) {bound : ℕ} → get_or s (at + 0) 0 < bound → get_or s at 0 < bound
-first s at h = let z : at + 0 ≡ at = omega arith in rw z at h
-
-pub null_found : {d : ℕ} {s : List ℕ} {stop at r k l : ℕ} → get_or s (at + 4) 0 ≡ 3 → Or0 r (FieldsAt s (at + 5) stop 1 0 2 r) → Or0 r (BodyAt d s stop at r k l k l)
+pub null_found : {d : ℕ} {s : List ℕ} {stop at r : ℕ} {u : Left} → get_or s (at + 4) 0 ≡ 3 → FieldsAt s (at + 5) stop 1 0 2 r → BodyAt d s stop at r u u
 unfolding expr_body expr_kinds pick as_null give ◌>>=◌ lower_expr
-null_found q (inl e) = inl e
-null_found {d} {s} {stop} {at} {r} q (inr f) = inr (record {
+null_found {d} {s} {stop} {at} {r} q f = record {
   tree = null at (get_or s (at + 5) 0);
-  reads = kind_is d s stop at 3 q (step _ _ (below_in s at stop 2 (at + 5) r f.0 (omega (arith, f.0, f.1)) (first s (at + 5) f.2)) refl);
+  reads = kind_is d s stop at 3 q (step _ _ (below_in s at stop 2 (at + 5) r f.0 f.1 (first s (at + 5) f.2)) refl);
   records = 0;
   labels = 0;
   paid = (omega arith, omega arith);
   tame = tame_more tame_emit (omega arith) (omega arith);
-})
+}
 
-pub new_found : {d : ℕ} {s : List ℕ} {stop at r k l : ℕ} → get_or s (at + 4) 0 ≡ 4 → r ≡ at + 5 + 4 → r ≤ stop → Or0 r (BodyAt d s stop at r k l k l)
+pub new_found : {d : ℕ} {s : List ℕ} {stop at r : ℕ} {u : Left} → get_or s (at + 4) 0 ≡ 4 → (r ≡ at + 5 + 4) × (r ≤ stop) → BodyAt d s stop at r u u
 unfolding expr_body expr_kinds pick as_new_instance give ◌>>=◌ lower_expr
-new_found {d} {s} {stop} {at} {r} q e h = inr (record {
+new_found {d} {s} {stop} {at} {r} q f = record {
   tree = new_instance at (number 4 s (at + 5));
-  reads = kind_is d s stop at 4 q (step _ _ (number_in s at stop 4 (at + 5) r e h) refl);
+  reads = kind_is d s stop at 4 q (step _ _ (number_in s at stop 4 (at + 5) r f.0 f.1) refl);
   records = 0;
   labels = 0;
   paid = (omega arith, omega arith);
   tame = tame_more tame_emit (omega arith) (omega arith);
-})
+}
 
-pub construct_found : {d : ℕ} {s : List ℕ} {stop at r n k l k' l' : ℕ} → get_or s (at + 4) 0 ≡ 5 → at + 9 ≤ stop → Or0 r (RunAt d s stop (at + 9) r 255 k l n k' l') → Or0 r (BodyAt d s stop at r k l k' l')
+pub construct_found : {d : ℕ} {s : List ℕ} {stop at a r n : ℕ} {u u' : Left} → get_or s (at + 4) 0 ≡ 5 → (a ≡ at + 5 + 4) × (a ≤ stop) → RunAt d s stop a r 255 n u u' → BodyAt d s stop at r u u'
 unfolding expr_body expr_kinds pick as_construct give ◌>>=◌ lower_expr
-construct_found q h (inl e) = inl e
-construct_found {d} {s} {stop} {at} q h (inr f) = inr (record {
+construct_found {d} {s} {stop} {at} {a} q h f = record {
   tree = construct at (number 4 s (at + 5)) (exprs_of f.trees);
-  reads = kind_is d s stop at 5 q (step _ _ (number_in s at stop 4 (at + 5) (at + 9) (omega arith) h) (step _ _ f.reads refl));
+  reads = kind_is d s stop at 5 q (step _ _ (number_in s at stop 4 (at + 5) a h.0 h.1) (step _ _ f.reads refl));
   records = f.records;
   labels = f.labels;
   paid = f.paid;
   tame = tame_more (tame_then (tame_require _ _ _ _ (lt-ltb (length_exprs (exprs_of f.trees)) 256 (omega (arith, length_exprs_law f.trees, f.count)))) (tame_then tame_emit (each_tame f.trees f.each))) (omega arith) (omega arith);
-})
+}
 
-pub assign_found : {d : ℕ} {s : List ℕ} {stop at a r k l k₁ l₁ k' l' : ℕ} → get_or s (at + 4) 0 ≡ 6 → Or0 a (ExprAt d s stop (at + 5) a k l k₁ l₁) → Or0 r (ExprAt d s stop a r k₁ l₁ k' l') → Or0 r (BodyAt d s stop at r k l k' l')
+pub assign_found : {d : ℕ} {s : List ℕ} {stop at a r : ℕ} {u u₁ u' : Left} → get_or s (at + 4) 0 ≡ 6 → ExprAt d s stop (at + 5) a u u₁ → ExprAt d s stop a r u₁ u' → BodyAt d s stop at r u u'
 unfolding expr_body expr_kinds pick as_assign give ◌>>=◌ lower_expr
-assign_found q x (inl e) = inl e
-assign_found {d} {s} {stop} {at} q x (inr g) = let f = found x g.place.0 in inr (record {
+assign_found {d} {s} {stop} {at} q f g = record {
   tree = assign at f.tree g.tree;
   reads = kind_is d s stop at 6 q (step _ _ f.reads (step _ _ g.reads refl));
   records = f.records + g.records;
   labels = f.labels + g.labels;
   paid = (omega (arith, f.paid.0, g.paid.0), omega (arith, f.paid.1, g.paid.1));
   tame = tame_more (tame_then tame_emit (tame_then f.tame g.tame)) (omega arith) (omega arith);
-})
+}
 
--- a field, with what its form pays
-pub field_found : {d : ℕ} {s : List ℕ} {stop at a r k l k₁ l₁ k' l' : ℕ} (n : ℕ) → get_or s (at + 4) 0 ≡ 7 → Or0 a (FieldsAt s (at + 5) stop 5 0 3 a)
-    → k₁ + get_or s (at + 5) 0 ≡ k → l₁ + n ≡ l → (0 < get_or s (at + 5) 0 → 0 < n) → Or0 r (ExprAt d s stop a r k₁ l₁ k' l') → Or0 r (BodyAt d s stop at r k l k' l')
+-- a field pays its form, and a label where that is not 0
+pub field_found : {d : ℕ} {s : List ℕ} {stop at a w n r : ℕ} {u u₁ u' : Left} → get_or s (at + 4) 0 ≡ 7 → FieldsAt s (at + 5) stop 5 0 3 a → w ≡ get_or s (at + 5) 0 → n ≡ min w 1
+    → Paid u u₁ w n → ExprAt d s stop a r u₁ u' → BodyAt d s stop at r u u'
 unfolding expr_body expr_kinds pick as_field give ◌>>=◌ lower_expr
-field_found n q x u v h (inl e) = inl e
-field_found {d} {s} {stop} {at} {a} n q x u v h (inr g) = let f = found x g.place.0 in inr (record {
+field_found {d} {s} {stop} {at} {a} {w} {n} q f e m u g = record {
   tree = field at (get_or s (at + 5) 0) (number 4 s (at + 6)) g.tree;
-  reads = kind_is d s stop at 7 q (step _ _ (below_in s at stop 3 (at + 5) (at + 6) (omega arith) (omega (arith, f.1)) (first s (at + 5) f.2))
-      (step _ _ (number_in s at stop 4 (at + 6) a (omega (arith, f.0)) (omega (arith, f.0, f.1))) (step _ _ g.reads refl)));
+  reads = kind_is d s stop at 7 q (step _ _ (below_in s at stop 3 (at + 5) (at + 6) (omega arith) (omega (arith, f.0, f.1)) (first s (at + 5) f.2))
+      (step _ _ (number_in s at stop 4 (at + 6) a (omega (arith, f.0)) f.1) (step _ _ g.reads refl)));
   records = get_or s (at + 5) 0 + g.records;
   labels = n + g.labels;
-  paid = (omega (arith, u, g.paid.0), omega (arith, v, g.paid.1));
-  tame = field_tame at (get_or s (at + 5) 0) (number 4 s (at + 6)) h g.tame;
-})
+  paid = (omega (arith, u.0, e, g.paid.0), omega (arith, u.1, g.paid.1));
+  tame = field_tame at (get_or s (at + 5) 0) (number 4 s (at + 6)) (λ h. omega (arith, h, e, m)) g.tame;
+}
 
-pub index_found : {d : ℕ} {s : List ℕ} {stop at a b r k l k₁ l₁ k' l' : ℕ} → get_or s (at + 4) 0 ≡ 8 → Or0 a (FieldsAt s (at + 5) stop 5 0 2 a)
-    → Or0 b (ExprAt d s stop a b k l k₁ l₁) → Or0 r (ExprAt d s stop b r k₁ l₁ k' l') → Or0 r (BodyAt d s stop at r k l k' l')
+pub index_found : {d : ℕ} {s : List ℕ} {stop at a b r : ℕ} {u u₁ u' : Left} → get_or s (at + 4) 0 ≡ 8 → FieldsAt s (at + 5) stop 5 0 2 a
+    → ExprAt d s stop a b u u₁ → ExprAt d s stop b r u₁ u' → BodyAt d s stop at r u u'
 unfolding expr_body expr_kinds pick as_index give ◌>>=◌ lower_expr
-index_found q x y (inl e) = inl e
-index_found {d} {s} {stop} {at} {a} q x y (inr h) =
-    let g = found y h.place.0 in
-    let f = found x g.place.0 in
-    inr (record {
+index_found {d} {s} {stop} {at} {a} q f g h =
+    record {
       tree = index at (get_or s (at + 5) 0) (number 4 s (at + 6)) g.tree h.tree;
-      reads = kind_is d s stop at 8 q (step _ _ (below_in s at stop 2 (at + 5) (at + 6) (omega arith) (omega (arith, f.1)) (first s (at + 5) f.2))
-          (step _ _ (number_in s at stop 4 (at + 6) a (omega (arith, f.0)) (omega (arith, f.0, f.1))) (step _ _ g.reads (step _ _ h.reads refl))));
+      reads = kind_is d s stop at 8 q (step _ _ (below_in s at stop 2 (at + 5) (at + 6) (omega arith) (omega (arith, f.0, f.1)) (first s (at + 5) f.2))
+          (step _ _ (number_in s at stop 4 (at + 6) a (omega (arith, f.0)) f.1) (step _ _ g.reads (step _ _ h.reads refl))));
       records = g.records + h.records;
       labels = g.labels + h.labels;
       paid = (omega (arith, g.paid.0, h.paid.0), omega (arith, g.paid.1, h.paid.1));
       tame = tame_more (tame_then tame_emit (tame_then g.tame h.tame)) (omega arith) (omega arith);
-    })
+    }
 
-pub conditional_found : {d : ℕ} {s : List ℕ} {stop at a b r k l k₁ l₁ k₂ l₂ l₃ k' l' : ℕ} → get_or s (at + 4) 0 ≡ 9 → l₃ + 2 ≡ l
-    → Or0 a (ExprAt d s stop (at + 5) a k l₃ k₁ l₁) → Or0 b (ExprAt d s stop a b k₁ l₁ k₂ l₂) → Or0 r (ExprAt d s stop b r k₂ l₂ k' l') → Or0 r (BodyAt d s stop at r k l k' l')
+pub conditional_found : {d : ℕ} {s : List ℕ} {stop at a b r : ℕ} {u u₁ u₂ u₃ u' : Left} → get_or s (at + 4) 0 ≡ 9 → Paid u u₃ 0 2
+    → ExprAt d s stop (at + 5) a u₃ u₁ → ExprAt d s stop a b u₁ u₂ → ExprAt d s stop b r u₂ u' → BodyAt d s stop at r u u'
 unfolding expr_body expr_kinds pick as_conditional give ◌>>=◌ lower_expr
-conditional_found q p x y (inl e) = inl e
-conditional_found {d} {s} {stop} {at} q p x y (inr h) =
-    let g = found y h.place.0 in
-    let f = found x g.place.0 in
-    inr (record {
+conditional_found {d} {s} {stop} {at} q u f g h =
+    record {
       tree = conditional at f.tree g.tree h.tree;
       reads = kind_is d s stop at 9 q (step _ _ f.reads (step _ _ g.reads (step _ _ h.reads refl)));
       records = f.records + g.records + h.records;
       labels = 2 + (f.labels + g.labels + h.labels);
-      paid = (omega (arith, f.paid.0, g.paid.0, h.paid.0), omega (arith, p, f.paid.1, g.paid.1, h.paid.1));
+      paid = (omega (arith, u.0, f.paid.0, g.paid.0, h.paid.0), omega (arith, u.1, f.paid.1, g.paid.1, h.paid.1));
       tame = tame_more (tame_label (λ l. tame_label (λ m. tame_then tame_emit (tame_then f.tame (tame_then g.tame (tame_then tame_mark (tame_then h.tame tame_mark))))))) (omega arith) (omega arith);
-    })
+    }
 
-pub cast_found : {d : ℕ} {s : List ℕ} {stop at a r k l k' l' : ℕ} → get_or s (at + 4) 0 ≡ 10 → Or0 a (FieldsAt s (at + 5) stop 5 4 2 a) → Or0 r (ExprAt d s stop a r k l k' l') → Or0 r (BodyAt d s stop at r k l k' l')
+pub cast_found : {d : ℕ} {s : List ℕ} {stop at a r : ℕ} {u u' : Left} → get_or s (at + 4) 0 ≡ 10 → FieldsAt s (at + 5) stop 5 4 2 a → ExprAt d s stop a r u u' → BodyAt d s stop at r u u'
 unfolding expr_body expr_kinds pick as_dyn_cast give ◌>>=◌ lower_expr
-cast_found q x (inl e) = inl e
-cast_found {d} {s} {stop} {at} {a} q x (inr g) =
-    let f = found x g.place.0 in
+cast_found {d} {s} {stop} {at} {a} q f g =
     let z : at + 5 + 4 ≡ at + 9 = omega arith in
-    inr (record {
+    record {
       tree = dyn_cast at (number 4 s (at + 5)) (get_or s (at + 9) 0) g.tree;
-      reads = kind_is d s stop at 10 q (step _ _ (number_in s at stop 4 (at + 5) (at + 9) (omega arith) (omega (arith, f.1)))
-          (step _ _ (below_in s at stop 2 (at + 9) a (omega (arith, f.0)) (omega (arith, f.0, f.1)) (rw z at f.2)) (step _ _ g.reads refl)));
+      reads = kind_is d s stop at 10 q (step _ _ (number_in s at stop 4 (at + 5) (at + 9) (omega arith) (omega (arith, f.0, f.1)))
+          (step _ _ (below_in s at stop 2 (at + 9) a (omega (arith, f.0)) f.1 (rw z at f.2)) (step _ _ g.reads refl)));
       records = g.records;
       labels = g.labels;
       paid = g.paid;
       tame = tame_more (tame_then tame_emit g.tame) (omega arith) (omega arith);
-    })
+    }
 
-pub local_found : {d : ℕ} {s : List ℕ} {stop at r k l : ℕ} → get_or s (at + 4) 0 ≡ 11 → Or0 r (FieldsAt s (at + 5) stop 5 0 4 r) → Or0 r (BodyAt d s stop at r k l k l)
+pub local_found : {d : ℕ} {s : List ℕ} {stop at r : ℕ} {u : Left} → get_or s (at + 4) 0 ≡ 11 → FieldsAt s (at + 5) stop 5 0 4 r → BodyAt d s stop at r u u
 unfolding expr_body expr_kinds pick as_local give ◌>>=◌ lower_expr
-local_found q (inl e) = inl e
-local_found {d} {s} {stop} {at} {r} q (inr f) = inr (record {
+local_found {d} {s} {stop} {at} {r} q f = record {
   tree = local at (get_or s (at + 5) 0) (number 4 s (at + 6));
-  reads = kind_is d s stop at 11 q (step _ _ (below_in s at stop 4 (at + 5) (at + 6) (omega arith) (omega (arith, f.1)) (first s (at + 5) f.2))
-      (step _ _ (number_in s at stop 4 (at + 6) r (omega (arith, f.0)) (omega (arith, f.0, f.1))) refl));
+  reads = kind_is d s stop at 11 q (step _ _ (below_in s at stop 4 (at + 5) (at + 6) (omega arith) (omega (arith, f.0, f.1)) (first s (at + 5) f.2))
+      (step _ _ (number_in s at stop 4 (at + 6) r (omega (arith, f.0)) f.1) refl));
   records = 0;
   labels = 0;
   paid = (omega arith, omega arith);
   tame = tame_more tame_emit (omega arith) (omega arith);
-})
+}
 
 both_true : (a b : Bool) → (a && b) ≡ true → a ≡ true
 both_true true b e = refl
 both_true false b e = e
 
-pub intrinsic_found : {d : ℕ} {s : List ℕ} {stop at a r m n k l k' l' c h y : ℕ} {b : Bool} → get_or s (at + 4) 0 ≡ 12 → Or0 a (FieldsAt s (at + 5) stop 7 0 34 a) → 0 < a
+pub intrinsic_found : {d : ℕ} {s : List ℕ} {stop at a r m n c h y : ℕ} {u u' : Left} {b : Bool} → get_or s (at + 4) 0 ≡ 12 → FieldsAt s (at + 5) stop 7 0 34 a
     → c ≡ get_or s (at + 5) 0 → h ≡ get_or s (at + 6) 0 → y ≡ get_or s (at + 7) 0 → b ≡ (eqb h 0 && eqb y (intrinsic_of c).types) → b ≡ true
-    → Or0 r (RunAt d s stop a r m k l n k' l') → Or0 r (BodyAt d s stop at r k l k' l')
+    → RunAt d s stop a r m n u u' → BodyAt d s stop at r u u'
 unfolding expr_body expr_kinds pick as_intrinsic give ◌>>=◌ lower_expr
-intrinsic_found q x p e₁ e₂ e₃ f o (inl e) = inl e
-intrinsic_found {d} {s} {stop} {at} {a} {b = b} q x p e₁ e₂ e₃ j o (inr g) =
-    let f = found x p in
+intrinsic_found {d} {s} {stop} {at} {a} {b = b} q f e₁ e₂ e₃ j o g =
     let t : (eqb (get_or s (at + 6) 0) 0 && eqb (get_or s (at + 7) 0) (intrinsic_of (get_or s (at + 5) 0)).types) ≡ true = rw (e₁, e₂, e₃) at (sym j ∙ o) in
     let z = eqb-true (get_or s (at + 6) 0) 0 (both_true _ _ t) in
-    inr (record {
+    record {
       tree = intrinsic at (get_or s (at + 5) 0) (get_or s (at + 6) 0) (get_or s (at + 7) 0) (number 4 s (at + 8)) (exprs_of g.trees);
-      reads = kind_is d s stop at 12 q (step _ _ (below_in s at stop 34 (at + 5) (at + 6) (omega arith) (omega (arith, f.1)) (first s (at + 5) f.2))
-          (step _ _ (below_in s at stop 2 (at + 6) (at + 7) (omega arith) (omega (arith, f.1)) (omega (arith, z)))
-          (step _ _ (byte_in s at stop (at + 7) (at + 8) (omega arith) (omega (arith, f.1)))
-          (step _ _ (number_in s at stop 4 (at + 8) a (omega (arith, f.0)) (omega (arith, f.0, f.1))) (step _ _ g.reads refl)))));
+      reads = kind_is d s stop at 12 q (step _ _ (below_in s at stop 34 (at + 5) (at + 6) (omega arith) (omega (arith, f.0, f.1)) (first s (at + 5) f.2))
+          (step _ _ (below_in s at stop 2 (at + 6) (at + 7) (omega arith) (omega (arith, f.0, f.1)) (omega (arith, z)))
+          (step _ _ (byte_in s at stop (at + 7) (at + 8) (omega arith) (omega (arith, f.0, f.1)))
+          (step _ _ (number_in s at stop 4 (at + 8) a (omega (arith, f.0)) f.1) (step _ _ g.reads refl)))));
       records = g.records;
       labels = g.labels;
       paid = g.paid;
       tame = tame_more (tame_then (tame_require _ _ _ _ t) (tame_then tame_emit (each_tame g.trees g.each))) (omega arith) (omega arith);
-    })
+    }
 
-pub free_found : {d : ℕ} {s : List ℕ} {stop at r k l k' l' : ℕ} → get_or s (at + 4) 0 ≡ 13 → Or0 r (CallAt d s stop (at + 5) r k l k' l') → Or0 r (BodyAt d s stop at r k l k' l')
+pub free_found : {d : ℕ} {s : List ℕ} {stop at r : ℕ} {u u' : Left} → get_or s (at + 4) 0 ≡ 13 → CallAt d s stop (at + 5) r u u' → BodyAt d s stop at r u u'
 unfolding expr_body expr_kinds pick as_free_call give ◌>>=◌ lower_expr
-free_found q (inl e) = inl e
-free_found {d} {s} {stop} {at} q (inr g) = inr (record {
+free_found {d} {s} {stop} {at} q g = record {
   tree = free_call at g.function g.args;
   reads = kind_is d s stop at 13 q (step _ _ (g.callee at) (step _ _ (g.reads at) refl));
   records = g.records;
   labels = g.labels;
   paid = g.paid;
   tame = g.tame at;
-})
+}
 
-pub static_found : {d : ℕ} {s : List ℕ} {stop at r k l l₁ k' l' : ℕ} → get_or s (at + 4) 0 ≡ 14 → l₁ + 1 ≡ l → Or0 r (CallAt d s stop (at + 5) r k l₁ k' l') → Or0 r (BodyAt d s stop at r k l k' l')
+pub static_found : {d : ℕ} {s : List ℕ} {stop at r : ℕ} {u u₁ u' : Left} → get_or s (at + 4) 0 ≡ 14 → Paid u u₁ 0 1 → CallAt d s stop (at + 5) r u₁ u' → BodyAt d s stop at r u u'
 unfolding expr_body expr_kinds pick as_static_call give ◌>>=◌ lower_expr
-static_found q p (inl e) = inl e
-static_found {d} {s} {stop} {at} q p (inr g) = inr (record {
+static_found {d} {s} {stop} {at} q u g = record {
   tree = static_call at g.function g.args;
   reads = kind_is d s stop at 14 q (step _ _ (g.callee at) (step _ _ (g.reads at) refl));
   records = g.records;
   labels = 1 + g.labels;
-  paid = (g.paid.0, omega (arith, p, g.paid.1));
+  paid = (omega (arith, u.0, g.paid.0), omega (arith, u.1, g.paid.1));
   tame = tame_more (tame_label (λ l. tame_then (g.tame at) tame_mark)) (omega arith) (omega arith);
-})
+}
 
-pub instance_found : {d : ℕ} {s : List ℕ} {stop at a b r k l k₁ l₁ k₂ l₂ k' l' : ℕ} → get_or s (at + 4) 0 ≡ 15 → Or0 a (FieldsAt s (at + 5) stop 1 0 2 a) → k₁ + (1 + get_or s (at + 5) 0) ≡ k → l₁ + 1 ≡ l
-    → Or0 b (ExprAt d s stop a b k₁ l₁ k₂ l₂) → Or0 r (CallAt d s stop b r k₂ l₂ k' l') → Or0 r (BodyAt d s stop at r k l k' l')
+pub instance_found : {d : ℕ} {s : List ℕ} {stop at a b r : ℕ} {u u₁ u₂ u' : Left} → get_or s (at + 4) 0 ≡ 15 → FieldsAt s (at + 5) stop 1 0 2 a → Paid u u₁ (1 + get_or s (at + 5) 0) 1
+    → ExprAt d s stop a b u₁ u₂ → CallAt d s stop b r u₂ u' → BodyAt d s stop at r u u'
 unfolding expr_body expr_kinds pick as_instance_call give ◌>>=◌ lower_expr
-instance_found q x u v y (inl e) = inl e
-instance_found {d} {s} {stop} {at} {a} q x u v y (inr h) =
-    let g = found y h.place in
-    let f = found x g.place.0 in
-    inr (record {
+instance_found {d} {s} {stop} {at} {a} q f u g h =
+    record {
       tree = instance_call at (get_or s (at + 5) 0) g.tree h.function h.args;
-      reads = kind_is d s stop at 15 q (step _ _ (below_in s at stop 2 (at + 5) a f.0 (omega (arith, f.0, f.1)) (first s (at + 5) f.2))
+      reads = kind_is d s stop at 15 q (step _ _ (below_in s at stop 2 (at + 5) a f.0 f.1 (first s (at + 5) f.2))
           (step _ _ g.reads (step _ _ (h.callee at) (step _ _ (h.reads at) refl))));
       records = 1 + get_or s (at + 5) 0 + g.records + h.records;
       labels = 1 + (g.labels + h.labels);
-      paid = (omega (arith, u, g.paid.0, h.paid.0), omega (arith, v, g.paid.1, h.paid.1));
+      paid = (omega (arith, u.0, g.paid.0, h.paid.0), omega (arith, u.1, g.paid.1, h.paid.1));
       tame = tame_more (tame_label (λ l. tame_then tame_emit (tame_then (weak_tame at (get_or s (at + 5) 0)) (tame_then g.tame (tame_then (h.tame at) tame_mark))))) (omega arith) (omega arith);
-    })
+    }
 
-pub closure_found : {d : ℕ} {s : List ℕ} {stop at a r m n k l k₁ l₁ k₂ l₂ k' l' : ℕ} → get_or s (at + 4) 0 ≡ 16 → k₁ + 2 ≡ k → l₁ + 2 ≡ l
-    → Or0 a (ExprAt d s stop (at + 5) a k₁ l₁ k₂ l₂) → 0 < a → a + 6 ≤ stop → Or0 r (RunAt d s stop (a + 6) r m k₂ l₂ n k' l') → Or0 r (BodyAt d s stop at r k l k' l')
+pub closure_found : {d : ℕ} {s : List ℕ} {stop at a b r m n : ℕ} {u u₁ u₂ u' : Left} → get_or s (at + 4) 0 ≡ 16 → Paid u u₁ 2 2
+    → ExprAt d s stop (at + 5) a u₁ u₂ → (b ≡ a + 6) × (b ≤ stop) → RunAt d s stop b r m n u₂ u' → BodyAt d s stop at r u u'
 unfolding expr_body expr_kinds pick as_closure_call give ◌>>=◌ lower_expr
-closure_found q u v x p h (inl e) = inl e
-closure_found {d} {s} {stop} {at} {a} q u v x p h (inr g) = let f = found x p in inr (record {
+closure_found {d} {s} {stop} {at} {a} {b} q u f h g = record {
   tree = closure_call at f.tree (number 4 s a) (number 2 s (a + 4)) (exprs_of g.trees);
   reads = kind_is d s stop at 16 q (step _ _ f.reads (step _ _ (number_in s at stop 4 a (a + 4) (omega arith) (omega (arith, h)))
-      (step _ _ (number_in s at stop 2 (a + 4) (a + 6) (omega arith) h) (step _ _ g.reads refl))));
+      (step _ _ (number_in s at stop 2 (a + 4) b (omega (arith, h.0)) h.1) (step _ _ g.reads refl))));
   records = 2 + (f.records + g.records);
   labels = 2 + (f.labels + g.labels);
-  paid = (omega (arith, u, f.paid.0, g.paid.0), omega (arith, v, f.paid.1, g.paid.1));
+  paid = (omega (arith, u.0, f.paid.0, g.paid.0), omega (arith, u.1, f.paid.1, g.paid.1));
   tame = tame_more (tame_label (λ c. tame_then tame_emit (tame_then f.tame (tame_then tame_mark (tame_label (λ l. tame_then tame_emit (tame_then (each_tame g.trees g.each) (tame_then tame_emit tame_mark)))))))) (omega arith) (omega arith);
-})
+}
 
 -- 5. The expression: its head, a record, its body up to its end
 
-pub expr_found : {s : List ℕ} {end at stop last k l k₁ k' l' : ℕ} (depth : ℕ)
-    → Or0 stop ((head s end at ≡ ok (get_or s (at + 4) 0, stop) (at + 5)) × (0 < at) × (0 < depth) × (at + 5 ≤ stop) × (stop ≤ end)) → 0 < stop
-    → k₁ + 1 ≡ k → Or0 last (BodyAt (depth - 1) s stop at last k₁ l k' l') → last ≡ stop → Or0 stop (ExprAt depth s end at stop k l k' l')
+pub expr_found : {s : List ℕ} {end at stop last r : ℕ} {u u₁ u' : Left} (depth : ℕ) → (head s end at ≡ ok (get_or s (at + 4) 0, stop) (at + 5)) × (0 < depth) × (at + 5 ≤ stop) × (stop ≤ end) → Paid u u₁ 1 0
+    → BodyAt (depth - 1) s stop at last u₁ u' → (r ≡ last) × (last ≡ stop) → ExprAt depth s end at r u u'
 unfolding parse_expr
-expr_found zero x p u b e = absurd (omega (arith, (found x p).2))
-expr_found {s} {end} {at} {stop} {last} {k} {l} {k₁} {k'} {l'} (suc d) x p u b e =
-    let f = found x p in
+expr_found zero f u g e = absurd (omega (arith, f.1))
+expr_found {s} {end} {at} {stop} {last} {r} {u} {u₁} {u'} (suc d) f p g e =
     let z : suc d - 1 ≡ d = omega arith in
-    let g : BodyAt d s stop at stop k₁ l k' l' = rw (z, e) at (found b (omega (arith, e, p))) in
-    inr (record {
-      tree = g.tree;
-      reads = node_in s end (expr_body s (parse_expr d s)) at _ stop f.0 g.reads;
-      records = 1 + g.records;
-      labels = g.labels;
-      paid = (omega (arith, u, g.paid.0), g.paid.1);
-      tame = g.tame;
-      place = (f.1, omega (arith, f.3), f.4);
+    let y : r ≡ stop = e.0 ∙ e.1 in
+    let h : BodyAt d s stop at stop u₁ u' = rw (z, e.1) at g in
+    rw y (record {
+      tree = h.tree;
+      reads = node_in s end (expr_body s (parse_expr d s)) at _ stop f.0 h.reads;
+      records = 1 + h.records;
+      labels = h.labels;
+      paid = (omega (arith, p.0, h.paid.0), omega (arith, p.1, h.paid.1));
+      tame = h.tame;
+      place = (omega (arith, f.2), f.3);
     })

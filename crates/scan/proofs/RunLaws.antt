@@ -3,7 +3,6 @@ use Prim.Native.Nat.{ℕ, zero, suc, ◌+◌, ◌-◌, ◌≤◌, ◌<◌}
 use mathlib.Core.Path.{◌≡◌, refl, sym, ◌∙◌}
 use mathlib.Core.Bool.{Bool, true, false, not, ◌||◌, true≢false}
 use mathlib.Core.List.{List, [], ◌∷◌}
-use mathlib.Core.Logic.{inr}
 use native.Mathlib.Omega.{arith}
 use native.Mathlib.Decide.{dec_lt}
 use native.Mathlib.Nat.{zero-add}
@@ -18,25 +17,26 @@ use Rattle.definitions.specs.Code.{Code}
 use Rattle.ir.proofs.ArgLaws.{flagged_read}
 use Rattle.ir.proofs.Inversion.{expr_moves, fill_nil, fill_cons}
 use Rattle.steps.specs.Walked.{marks_from}
-use Rattle.scan.specs.Scanned.{Tame, Each, Or0, ExprAt, RunAt, BeforeArg, ArgsAt}
+use Rattle.scan.specs.Scanned.{Tame, Each, ExprAt, RunAt, BeforeArg, ArgsAt, Paid}
+use Rattle.scan.specs.declared.fields.Left.{Left}
 use Rattle.scan.proofs.TameLaws.{tame_more, tame_done, tame_emit, tame_mark, tame_then, tame_label, tame_require}
-use Rattle.scan.proofs.ExprLaws.{found, run_in}
+use Rattle.scan.proofs.ExprLaws.{run_in}
 
 -- 1. Runs
 
 -- from `first` on, up to `next`: the items so far, before those of the rest
-pub record RunSoFar (d : ℕ) (s : List ℕ) (stop first n k l next n' k' l' : ℕ) : Type 0 where
+pub record RunSoFar (d : ℕ) (s : List ℕ) (stop first n next n' : ℕ) (u u' : Left) : Type 0 where
   pub grow : List Expr → List Expr
   pub reads : (xs : List Expr) (m : ℕ) → filling (parse_expr d s) stop next ≡ ok xs m → filling (parse_expr d s) stop first ≡ ok (grow xs) m
   pub count : (xs : List Expr) → n' + length (grow xs) ≡ n + length xs
   pub records : ℕ
   pub labels : ℕ
-  pub paid : (k' + records ≡ k) × (l' + labels ≡ l)
+  pub paid : Paid u u' records labels
   pub each : (xs : List Expr) (a b : ℕ) → Each (exprs_of xs) a b → Each (exprs_of (grow xs)) (records + a) (labels + b)
   pub place : (first ≤ next) × (next ≤ stop)
 
-pub run_start : (d : ℕ) (s : List ℕ) (stop first n k l : ℕ) → first ≤ stop → RunSoFar d s stop first n k l first n k l
-run_start d s stop first n k l h = record {
+pub run_start : (d : ℕ) (s : List ℕ) (stop first n : ℕ) (u : Left) → first ≤ stop → RunSoFar d s stop first n first n u u
+run_start d s stop first n u h = record {
   grow = λ xs. xs;
   reads = λ xs m e. e;
   count = λ xs. refl;
@@ -51,10 +51,9 @@ each_cons : (x : Expr) (xs : List Expr) {a b : ℕ} (c d : ℕ) → Tame (lower_
 unfolding Each exprs_of
 each_cons x xs {a} {b} c d h e = (a, b, c, d, h, e, refl, refl)
 
-pub run_more : {d : ℕ} {s : List ℕ} {stop first n k l next n₁ k₁ l₁ n₂ p k₂ l₂ : ℕ} → RunSoFar d s stop first n k l next n₁ k₁ l₁ → next < stop → n₂ + 1 ≡ n₁
-    → Or0 p (ExprAt d s stop next p k₁ l₁ k₂ l₂) → 0 < p → RunSoFar d s stop first n k l p n₂ k₂ l₂
-run_more {d} {s} {stop} {next = next} r h e x q =
-    let f = found x q in
+pub run_more : {d : ℕ} {s : List ℕ} {stop first n next n₁ n₂ p : ℕ} {u u₁ u₂ : Left} → RunSoFar d s stop first n next n₁ u u₁ → next < stop → n₂ + 1 ≡ n₁
+    → ExprAt d s stop next p u₁ u₂ → RunSoFar d s stop first n p n₂ u u₂
+run_more {d} {s} {stop} {next = next} r h e f =
     record {
       grow = λ xs. r.grow (f.tree ∷ xs);
       reads = λ xs m i. r.reads (f.tree ∷ xs) m (fill_cons (parse_expr d s) stop (expr_moves d s stop) next h f.reads i);
@@ -73,11 +72,10 @@ each_nil : Each (exprs_of []) 0 0
 unfolding Each exprs_of
 each_nil = tt
 
-pub run_end : {d : ℕ} {s : List ℕ} {end at stop n k l next n₁ k₁ l₁ : ℕ} → Or0 stop ((span s end at ≡ ok stop (at + 4)) × (at + 4 ≤ stop) × (stop ≤ end)) → 0 < stop
-    → RunSoFar d s stop (at + 4) n k l next n₁ k₁ l₁ → stop ≤ next → Or0 stop (RunAt d s end at stop n k l n₁ k₁ l₁)
-run_end {d} {s} {end} {at} {stop} {next = next} x q r h =
-    let f = found x q in
-    inr (record {
+pub run_end : {d : ℕ} {s : List ℕ} {end at stop n next n₁ : ℕ} {u u₁ : Left} → (span s end at ≡ ok stop (at + 4)) × (at + 4 ≤ stop) × (stop ≤ end)
+    → RunSoFar d s stop (at + 4) n next n₁ u u₁ → stop ≤ next → RunAt d s end at stop n n₁ u u₁
+run_end {d} {s} {end} {at} {stop} {next = next} f r h =
+    record {
       trees = r.grow [];
       reads = run_in s end (parse_expr d s) at f.0 (r.reads [] stop (fill_nil (parse_expr d s) stop (expr_moves d s stop) next h));
       count = omega (arith, r.count []);
@@ -86,24 +84,24 @@ run_end {d} {s} {end} {at} {stop} {next = next} x q r h =
       paid = (omega (arith, r.paid.0), omega (arith, r.paid.1));
       each = r.each [] 0 0 each_nil;
       place = (omega (arith, f.1), f.2);
-    })
+    }
 
 -- 2. Arguments
 
 -- the same of arguments, of which the next has number i and its parameter's mark is at p + i
-pub record ArgsSoFar (d : ℕ) (s : List ℕ) (stop first p n k l next i k' l' : ℕ) : Type 0 where
+pub record ArgsSoFar (d : ℕ) (s : List ℕ) (stop first p n next i : ℕ) (u u' : Left) : Type 0 where
   pub grow : List Expr → List Expr
   pub reads : (xs : List Expr) (m : ℕ) → filling (parse_expr d s) stop next ≡ ok xs m → filling (parse_expr d s) stop first ≡ ok (grow xs) m
   pub count : (xs : List Expr) → length (grow xs) ≡ i + length xs
   pub flags : (xs : List Expr) → Tame (require_flags (exprs_of xs) i) 0 0 → Tame (require_flags (exprs_of (grow xs)) 0) 0 0
   pub records : ℕ
   pub labels : ℕ
-  pub paid : (k' + records ≡ k) × (l' + labels ≡ l)
+  pub paid : Paid u u' records labels
   pub tame : (site : ℕ) (xs : List Expr) (a b : ℕ) → Tame (lower_args (exprs_of xs) site (marks_from s (p + i) (n - i))) a b → Tame (lower_args (exprs_of (grow xs)) site (marks_from s p n)) (records + a) (labels + b)
   pub place : (next ≤ stop) × (i ≤ n)
 
-pub args_start : (d : ℕ) (s : List ℕ) (stop first p n k l : ℕ) → first ≤ stop → ArgsSoFar d s stop first p n k l first 0 k l
-args_start d s stop first p n k l h = record {
+pub args_start : (d : ℕ) (s : List ℕ) (stop first p n : ℕ) (u : Left) → first ≤ stop → ArgsSoFar d s stop first p n first 0 u u
+args_start d s stop first p n u h = record {
   grow = λ xs. xs;
   reads = λ xs m e. e;
   count = λ xs. omega arith;
@@ -133,10 +131,9 @@ args_cons : (s : List ℕ) (site p n : ℕ) (x : Expr) (xs : List Expr) {a b c d
 unfolding lower_expr exprs_of marks_from
 args_cons s site p n x xs h t = tame_then (arg_tame site (get_or s p 0) h) t
 
-pub args_more : {d : ℕ} {s : List ℕ} {stop first p n k l next i k₁ l₁ k₂ l₂ e k₃ l₃ : ℕ} → ArgsSoFar d s stop first p n k l next i k₁ l₁ → next < stop → BeforeArg s next i p n k₁ l₁ k₂ l₂
-    → Or0 e (ExprAt d s stop next e k₂ l₂ k₃ l₃) → 0 < e → ArgsSoFar d s stop first p n k l e (i + 1) k₃ l₃
-args_more {d} {s} {stop} {first} {p} {n} {next = next} {i = i} {e = e} r h c x q =
-    let f = found x q in
+pub args_more : {d : ℕ} {s : List ℕ} {stop first p n next i e : ℕ} {u u₁ u₂ u₃ : Left} → ArgsSoFar d s stop first p n next i u u₁ → next < stop → BeforeArg s next i p n u₁ u₂
+    → ExprAt d s stop next e u₂ u₃ → ArgsSoFar d s stop first p n e (i + 1) u u₃
+args_more {d} {s} {stop} {first} {p} {n} {next = next} {i = i} {e = e} r h c f =
     record {
       grow = λ xs. r.grow (f.tree ∷ xs);
       reads = λ xs m i. r.reads (f.tree ∷ xs) m (fill_cons (parse_expr d s) stop (expr_moves d s stop) next h f.reads i);
@@ -165,18 +162,14 @@ flags_nil : (i : ℕ) → Tame (require_flags (exprs_of []) i) 0 0
 unfolding require_flags exprs_of
 flags_nil i = tame_done
 
-pub args_end : {d : ℕ} {s : List ℕ} {stop first p n k l next i k₁ l₁ k₂ : ℕ} → ArgsSoFar d s stop first p n k l next i k₁ l₁ → stop ≤ next → k₂ + (n - i) ≡ k₁
-    → Or0 stop ((stop ≡ stop) × ArgsAt d s stop first p n k l k₂ l₁)
-args_end {d} {s} {stop} {first} {p} {n} {next = next} {i = i} r h e = inr (
-  refl,
-  record {
-    trees = r.grow [];
-    reads = r.reads [] stop (fill_nil (parse_expr d s) stop (expr_moves d s stop) next h);
-    few = omega (arith, r.count [], r.place.1);
-    flags = r.flags [] (flags_nil i);
-    records = r.records + (n - i);
-    labels = r.labels + 0;
-    paid = (omega (arith, e, r.paid.0), omega (arith, r.paid.1));
-    tame = λ site. r.tame site [] (n - i) 0 (args_nil s site (p + i) (n - i));
-  },
-)
+pub args_end : {d : ℕ} {s : List ℕ} {stop first p n next i : ℕ} {u u₁ u₂ : Left} → ArgsSoFar d s stop first p n next i u u₁ → stop ≤ next → Paid u₁ u₂ (n - i) 0 → ArgsAt d s stop first p n u u₂
+args_end {d} {s} {stop} {first} {p} {n} {next = next} {i = i} r h u = record {
+  trees = r.grow [];
+  reads = r.reads [] stop (fill_nil (parse_expr d s) stop (expr_moves d s stop) next h);
+  few = omega (arith, r.count [], r.place.1);
+  flags = r.flags [] (flags_nil i);
+  records = r.records + (n - i);
+  labels = r.labels + 0;
+  paid = (omega (arith, u.0, r.paid.0), omega (arith, u.1, r.paid.1));
+  tame = λ site. r.tame site [] (n - i) 0 (args_nil s site (p + i) (n - i));
+}

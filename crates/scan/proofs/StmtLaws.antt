@@ -228,8 +228,3 @@ odd_default b = not (eqb (default_count b) 3)
 pub default_other : (b : ℕ) → odd_default b ≡ false → 3 ≡ default_count b
 unfolding odd_default
 default_other b h = sym (eqb-true (default_count b) 3 (not-false _ h))
-
-pub within_some : (n : ℕ) → (n ≡ 0 → ⊥) → n ≡ within n
-unfolding within
-within_some zero h = absurd (h refl)
-within_some (suc n) h = refl

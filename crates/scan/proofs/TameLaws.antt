@@ -1,6 +1,6 @@
 -- Code that is not refused, by how it is made up. Assumes nothing.
 use Prim.Native.Nat.{ℕ, zero, suc, ◌+◌, ◌≤◌}
-use mathlib.Core.Bool.{Bool, true, false, cond}
+use mathlib.Core.Bool.{Bool, true, false}
 use mathlib.Core.List.{List, [], ◌∷◌, ◌++◌}
 use mathlib.Core.Path.{◌≡◌, refl, ap, ◌∙◌}
 use native.Mathlib.Omega.{arith}
@@ -68,8 +68,3 @@ pub tame_emits : (is : List Instr) → Tame (emits is) (length is) 0
 unfolding emits
 tame_emits [] = tame_done
 tame_emits (i ∷ is) = tame_more (tame_then tame_emit (tame_emits is)) (omega arith) (omega arith)
-
--- a choice, as it falls
-pub tame_cond : (c : Bool) (p q : Code) {a b : ℕ} → (c ≡ true → Tame p a b) → (c ≡ false → Tame q a b) → Tame (cond c p q) a b
-tame_cond true p q h i = h refl
-tame_cond false p q h i = i refl

@@ -2,18 +2,21 @@
 use Prim.Native.Nat.{ℕ, ◌≤◌}
 use mathlib.Core.Bool.{Bool, true}
 use mathlib.Core.List.{List}
-use mathlib.Core.Logic.{inl, inr}
 use mathlib.Core.Path.{◌≡◌, refl, sym, ◌∙◌}
 use native.Mathlib.Omega.{arith}
 use lib.Dec.{eqb}
 use lib.ListN.{length, get_or}
 use borrow.Author.Tests.{eq-eqb, eqb-true}
+use Rattle.std.specs.Prelude.{Option, None, Some, IfSome}
+use Rattle.std.specs.Option.{option_eq}
 use Rattle.definitions.specs.Answer.{ok, bind}
 use Rattle.definitions.specs.Tree.{Stmt, block_of}
 use Rattle.definitions.specs.Read.{◌>>=◌, run, ended, parse_stmt, front_good, parse_unit, depth_limit}
 use Rattle.definitions.specs.Lower.{outside}
+use Rattle.laws.proofs.Inversion.{impossible}
 use Rattle.ir.proofs.UnitLaws.{front_room}
-use Rattle.scan.specs.Scanned.{Or0, Allows, BlockAt, Fits}
+use Rattle.scan.specs.Scanned.{Allows, BlockAt, Fits}
+use Rattle.scan.specs.declared.fields.Left.{Left}
 use Rattle.scan.proofs.TameLaws.{tame_more}
 
 -- 1. The front
@@ -37,7 +40,7 @@ unfolding parse_unit ◌>>=◌ bind ended
 unit_reads s b g e = rw (parse_unit, g, ◌>>=◌, e, bind, ended, eq-eqb (length s) (length s) refl)
 
 -- the block at 6, with what the unit's return byte asks, found up to the unit's end
-block_fits : (s : List ℕ) {k l k' l' : ℕ} → front_good s ≡ true → BlockAt depth_limit s (length s) 6 (length s) (get_or s 5 0) 0 k l k' l' → Fits s k l
+block_fits : (s : List ℕ) {u u' : Left} → front_good s ≡ true → BlockAt depth_limit s (length s) 6 (length s) (get_or s 5 0) 0 u u' → Fits s u.records u.labels
 block_fits s g x =
     record {
       tree = record { returns = get_or s 5 0; body = block_of x.trees };
@@ -46,6 +49,7 @@ block_fits s g x =
       tame = tame_more (x.tame (outside (get_or s 5 0)) (outside_allows (get_or s 5 0))) (omega (arith, x.paid.0)) (omega (arith, x.paid.1));
     }
 
-pub unit_fits : (s : List ℕ) (r v : ℕ) {k l k' l' : ℕ} → front_good s ≡ true → v ≡ get_or s 5 0 → Or0 r (BlockAt depth_limit s (length s) 6 r v 0 k l k' l') → eqb r (length s) ≡ true → Fits s k l
-unit_fits s r v g e (inl z) h = absurd (omega (arith, z, eqb-true r (length s) h, front_six s g))
-unit_fits s r v g e (inr x) h = block_fits s g (rw (e, eqb-true r (length s) h) at x)
+-- and as the code asks for it
+pub unit_fits : (s : List ℕ) (o : Option ℕ) (b : Bool) (v : ℕ) (u' : Left) {u : Left} → front_good s ≡ true → v ≡ get_or s 5 0 → IfSome o (λ r. BlockAt depth_limit s (length s) 6 r v 0 u u') → b ≡ option_eq eqb o (Some (length s)) → b ≡ true → Fits s u.records u.labels
+unit_fits s None b v u' g e x q h = impossible (cc)
+unit_fits s (Some r) b v u' g e x q h = block_fits s g (rw (e, eqb-true r (length s) (sym q ∙ h)) at x)

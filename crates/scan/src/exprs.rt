@@ -1,372 +1,252 @@
-// Expressions and runs of them: one cycle of calls, in which the depth that is left falls. A position of 0 is handed on: nothing was found.
-ghost use Rattle.std.specs.Prelude.{◌≡◌, true, ◌+◌, ◌≤◌, ◌<◌, length, get_or};
-ghost use Rattle.ir.specs.Kinds.{expr_code};
-ghost use Rattle.scan.specs.Scanned.{Or0, ExprAt, BodyAt, RunAt, ArgsAt, CallAt, BeforeArg};
-
-use super::fields::{after_const, after_fields, marks_good, node_end, pay, span_end};
+// Expressions and runs of them: one cycle of calls, in which the depth that is left falls.
+use super::fields::{Holder, Left};
 use ir::args::is_prvalue_ref;
 use ir::expr::ExprKind;
 use steps::tags::typed;
 
-// The most items of a run, where no rule limits them: more than a unit has bytes.
+// The most items of a run, where no rule limits them: as many as a unit may have bytes.
 pub(crate) const ITEMS: usize = 1048576;
 
-// An expression. Every kind emits a record at least, which is paid here.
-#[cycle(exprs)]
-pub(crate) fn scan_expr(
-    s: &[u8],
-    at: usize,
-    end: usize,
-    depth: usize,
-    records: &mut usize,
-    labels: &mut usize,
-) -> usize
-    requires { (at ≤ end) × (end ≤ length s.now) }
-    ensures { Or0 result (ExprAt depth s.now end at result records.old labels.old records.new labels.new) }
-{
-    let stop = node_end(s, at, end, depth);
-    if stop == 0 {
-        return 0;
-    }
-    if !pay(records, 1) {
-        return 0;
-    }
-    let below = depth - 1;
-    let body = at + 5;
-    let Ok(kind) = ExprKind::try_from(s[at + 4]) else {
-        return 0;
-    };
-    let last = match kind {
-        ExprKind::Nop => body,
-        ExprKind::Const => after_const(s, body, stop),
-        ExprKind::Null => after_fields(s, body, stop, 1, 0, 2),
-        ExprKind::NewInstance => body + 4,
-        ExprKind::Local => after_fields(s, body, stop, 5, 0, 4),
-        ExprKind::Assign => {
-            let a = scan_expr(s, body, stop, below, records, labels);
-            scan_expr(s, a, stop, below, records, labels)
-        }
-        ExprKind::Index => {
-            let a = after_fields(s, body, stop, 5, 0, 2);
-            let b = scan_expr(s, a, stop, below, records, labels);
-            scan_expr(s, b, stop, below, records, labels)
-        }
-        ExprKind::DynCast => {
-            let a = after_fields(s, body, stop, 5, 4, 2);
-            scan_expr(s, a, stop, below, records, labels)
-        }
-        _ => late_expr(kind, s, at, stop, below, records, labels),
-    };
-    if last == stop {
-        return stop;
-    }
-    0
+// The parameters of a function that is called: where their marks begin, and how many they are.
+#[derive(Clone, Copy, Debug, PartialEq, Eq)]
+struct Params {
+    marks: usize,
+    count: usize,
 }
 
-// The kinds that make labels or hold a run.
-#[cycle(exprs)]
-fn late_expr(
-    kind: ExprKind,
-    s: &[u8],
-    at: usize,
-    stop: usize,
-    depth: usize,
-    records: &mut usize,
-    labels: &mut usize,
-) -> usize
-    requires { (at + 5 ≤ stop) × (stop ≤ length s.now) × (expr_code kind ≡ get_or s.now (at + 4) 0) }
-    ensures { Or0 result (BodyAt depth s.now stop at result records.old labels.old records.new labels.new) }
-{
-    let body = at + 5;
-    match kind {
-        ExprKind::Field => scan_field(s, at, stop, depth, records, labels),
-        ExprKind::Conditional => {
-            if !pay(labels, 2) {
-                return 0;
+impl Holder<'_> {
+    ghost use Rattle.std.specs.Prelude.{◌≡◌, ◌+◌, ◌≤◌, ◌<◌, length, get_or, IfSome};
+    ghost use Rattle.ir.specs.Kinds.{expr_code};
+    ghost use Rattle.scan.specs.Scanned.{ExprAt, BodyAt, RunAt, ArgsAt, CallAt, BeforeArg};
+
+    // An expression. Every kind emits a record at least, which is paid here.
+    #[tactic(auto, using(std::proofs::lemmas::Option::IfSome_then, crate::proofs::ExprLaws::expr_found))]
+    #[cycle(exprs)]
+    pub(crate) fn expr(&self, at: usize, depth: usize, left: &mut Left) -> Option<usize>
+        requires { at ≤ self.now.end }
+        ensures { IfSome result (λ r. ExprAt depth self.now.unit.now self.now.end at r left.old left.new) }
+    {
+        let node = Holder {
+            unit: self.unit,
+            end: self.node(at, depth)?,
+        };
+        left.pay_records(1)?;
+        let Ok(kind) = ExprKind::try_from(self.unit[at + 4]) else {
+            return None;
+        };
+        let last = node.expr_kind(kind, at, depth - 1, left)?;
+        node.close(last)
+    }
+
+    // What the expression's kind asks, of this node, with depth for the nodes in it.
+    #[tactic(auto, using(std::proofs::lemmas::Option::IfSome_then, ir::proofs::KindLaws::expr_is, crate::proofs::ExprLaws::nop_found, crate::proofs::ExprLaws::const_found, crate::proofs::ExprLaws::null_found, crate::proofs::ExprLaws::new_found, crate::proofs::ExprLaws::local_found, crate::proofs::ExprLaws::assign_found, crate::proofs::ExprLaws::index_found, crate::proofs::ExprLaws::cast_found))]
+    #[cycle(exprs)]
+    fn expr_kind(&self, kind: ExprKind, at: usize, depth: usize, left: &mut Left) -> Option<usize>
+        requires { (at + 5 ≤ self.now.end) × (expr_code kind ≡ get_or self.now.unit.now (at + 4) 0) }
+        ensures { IfSome result (λ r. BodyAt depth self.now.unit.now self.now.end at r left.old left.new) }
+    {
+        let body = at + 5;
+        match kind {
+            ExprKind::Nop => Some(body),
+            ExprKind::Const => self.constant(body),
+            ExprKind::Null => self.fields(body, 1, 0, 2),
+            ExprKind::NewInstance => self.skip(body, 4),
+            ExprKind::Local => self.fields(body, 5, 0, 4),
+            ExprKind::Assign => {
+                let place = self.expr(body, depth, left)?;
+                self.expr(place, depth, left)
             }
-            let a = scan_expr(s, body, stop, depth, records, labels);
-            let b = scan_expr(s, a, stop, depth, records, labels);
-            scan_expr(s, b, stop, depth, records, labels)
-        }
-        ExprKind::Construct => scan_construct(s, at, stop, depth, records, labels),
-        ExprKind::IntrinsicCall => scan_intrinsic(s, at, stop, depth, records, labels),
-        ExprKind::FreeCall => scan_call(s, body, stop, depth, records, labels),
-        ExprKind::StaticCall => {
-            if !pay(labels, 1) {
-                return 0;
+            ExprKind::Index => {
+                let typ = self.fields(body, 5, 0, 2)?;
+                let array = self.expr(typ, depth, left)?;
+                self.expr(array, depth, left)
             }
-            scan_call(s, body, stop, depth, records, labels)
-        }
-        ExprKind::InstanceCall => scan_instance(s, at, stop, depth, records, labels),
-        ExprKind::ClosureCall => scan_closure(s, at, stop, depth, records, labels),
-        _ => 0,
-    }
-}
-
-// Field: behind a Context, one record more, one for a weak reference, and a label.
-#[cycle(exprs)]
-fn scan_field(
-    s: &[u8],
-    at: usize,
-    stop: usize,
-    depth: usize,
-    records: &mut usize,
-    labels: &mut usize,
-) -> usize
-    requires { (at + 5 ≤ stop) × (stop ≤ length s.now) × (get_or s.now (at + 4) 0 ≡ 7) }
-    ensures { Or0 result (BodyAt depth s.now stop at result records.old labels.old records.new labels.new) }
-{
-    let a = after_fields(s, at + 5, stop, 5, 0, 3);
-    if a == 0 {
-        return 0;
-    }
-    let form = usize::from(s[at + 5]);
-    if 0 < form {
-        if !pay(records, form) {
-            return 0;
-        }
-        if !pay(labels, 1) {
-            return 0;
+            ExprKind::DynCast => {
+                let weak = self.fields(body, 5, 4, 2)?;
+                self.expr(weak, depth, left)
+            }
+            _ => self.late_kind(kind, at, depth, left),
         }
     }
-    scan_expr(s, a, stop, depth, records, labels)
-}
 
-// Construct, with fewer than 256 arguments.
-#[cycle(exprs)]
-fn scan_construct(
-    s: &[u8],
-    at: usize,
-    stop: usize,
-    depth: usize,
-    records: &mut usize,
-    labels: &mut usize,
-) -> usize
-    requires { (at + 5 ≤ stop) × (stop ≤ length s.now) × (get_or s.now (at + 4) 0 ≡ 5) }
-    ensures { Or0 result (BodyAt depth s.now stop at result records.old labels.old records.new labels.new) }
-{
-    if stop - at < 9 {
-        return 0;
-    }
-    let mut items: usize = 255;
-    scan_run(s, at + 9, stop, depth, &mut items, records, labels)
-}
-
-// An intrinsic call, without short-circuit mark and with the types that it needs.
-#[cycle(exprs)]
-fn scan_intrinsic(
-    s: &[u8],
-    at: usize,
-    stop: usize,
-    depth: usize,
-    records: &mut usize,
-    labels: &mut usize,
-) -> usize
-    requires { (at + 5 ≤ stop) × (stop ≤ length s.now) × (get_or s.now (at + 4) 0 ≡ 12) }
-    ensures { Or0 result (BodyAt depth s.now stop at result records.old labels.old records.new labels.new) }
-{
-    let a = after_fields(s, at + 5, stop, 7, 0, 34);
-    if a == 0 {
-        return 0;
-    }
-    if !typed(
-        usize::from(s[at + 5]),
-        usize::from(s[at + 6]),
-        usize::from(s[at + 7]),
-    ) {
-        return 0;
-    }
-    let mut items = ITEMS;
-    scan_run(s, a, stop, depth, &mut items, records, labels)
-}
-
-// An instance call: a Context, one record more for a weak reference, the object and the call.
-#[cycle(exprs)]
-fn scan_instance(
-    s: &[u8],
-    at: usize,
-    stop: usize,
-    depth: usize,
-    records: &mut usize,
-    labels: &mut usize,
-) -> usize
-    requires { (at + 5 ≤ stop) × (stop ≤ length s.now) × (get_or s.now (at + 4) 0 ≡ 15) }
-    ensures { Or0 result (BodyAt depth s.now stop at result records.old labels.old records.new labels.new) }
-{
-    let a = after_fields(s, at + 5, stop, 1, 0, 2);
-    if a == 0 {
-        return 0;
-    }
-    if !pay(records, 1 + usize::from(s[at + 5])) {
-        return 0;
-    }
-    if !pay(labels, 1) {
-        return 0;
-    }
-    let b = scan_expr(s, a, stop, depth, records, labels);
-    scan_call(s, b, stop, depth, records, labels)
-}
-
-// A closure call: a Context, the closure, the invoke, the arguments, ParamEnd.
-#[cycle(exprs)]
-fn scan_closure(
-    s: &[u8],
-    at: usize,
-    stop: usize,
-    depth: usize,
-    records: &mut usize,
-    labels: &mut usize,
-) -> usize
-    requires { (at + 5 ≤ stop) × (stop ≤ length s.now) × (get_or s.now (at + 4) 0 ≡ 16) }
-    ensures { Or0 result (BodyAt depth s.now stop at result records.old labels.old records.new labels.new) }
-{
-    if !pay(records, 2) {
-        return 0;
-    }
-    if !pay(labels, 2) {
-        return 0;
-    }
-    let a = scan_expr(s, at + 5, stop, depth, records, labels);
-    if a == 0 {
-        return 0;
-    }
-    if stop - a < 6 {
-        return 0;
-    }
-    let mut items = ITEMS;
-    scan_run(s, a + 6, stop, depth, &mut items, records, labels)
-}
-
-// A run of expressions, no more than `items`.
-#[cycle(exprs)]
-pub(crate) fn scan_run(
-    s: &[u8],
-    at: usize,
-    end: usize,
-    depth: usize,
-    items: &mut usize,
-    records: &mut usize,
-    labels: &mut usize,
-) -> usize
-    requires { (at ≤ end) × (end ≤ length s.now) }
-    ensures { Or0 result (RunAt depth s.now end at result items.old records.old labels.old items.new records.new labels.new) }
-{
-    let stop = span_end(s, at, end);
-    if stop == 0 {
-        return 0;
-    }
-    let mut next = at + 4;
-    while next < stop {
-        if !pay(items, 1) {
-            return 0;
-        }
-        let p = scan_expr(s, next, stop, depth, records, labels);
-        if p == 0 {
-            return 0;
-        }
-        next = p;
-    }
-    stop
-}
-
-// A function, whose fields begin at `at`, and its arguments, which end at `stop`.
-#[cycle(exprs)]
-fn scan_call(
-    s: &[u8],
-    at: usize,
-    stop: usize,
-    depth: usize,
-    records: &mut usize,
-    labels: &mut usize,
-) -> usize
-    requires { (at ≤ stop) × (stop ≤ length s.now) }
-    ensures { Or0 result (CallAt depth s.now stop at result records.old labels.old records.new labels.new) }
-{
-    if at == 0 {
-        return 0;
-    }
-    let a = after_fields(s, at, stop, 12, 10, 16);
-    if a == 0 {
-        return 0;
-    }
-    let n = usize::from(s[at + 11]);
-    if stop - a < n {
-        return 0;
-    }
-    if !marks_good(s, a, n) {
-        return 0;
-    }
-    if span_end(s, a + n, stop) != stop {
-        return 0;
-    }
-    if !pay(records, 1) {
-        return 0;
-    }
-    if !pay(labels, 1) {
-        return 0;
-    }
-    scan_args(s, a + n + 4, stop, depth, a, n, records, labels)
-}
-
-// Arguments up to `stop`, no more than the n parameters whose marks begin at `params`: behind a Skip where the mark is 1, a Nop for each
-// that is absent, and none flagged from index 16 on.
-#[cycle(exprs)]
-fn scan_args(
-    s: &[u8],
-    at: usize,
-    stop: usize,
-    depth: usize,
-    params: usize,
-    n: usize,
-    records: &mut usize,
-    labels: &mut usize,
-) -> usize
-    requires { (at ≤ stop) × (stop ≤ length s.now) × (params + n ≤ at) × (n < 256) }
-    ensures { Or0 result ((result ≡ stop) × ArgsAt depth s.now stop at params n records.old labels.old records.new labels.new) }
-{
-    let mut next = at;
-    let mut k = 0;
-    while next < stop {
-        if !before_arg(s, next, k, params, n, records, labels) {
-            return 0;
-        }
-        let p = scan_expr(s, next, stop, depth, records, labels);
-        if p == 0 {
-            return 0;
-        }
-        next = p;
-        k += 1;
-    }
-    if !pay(records, n - k) {
-        return 0;
-    }
-    stop
-}
-
-// What goes with argument k, which stands at `at`: a parameter, whose Skip is paid where its mark is 1, and no flag from 16 on.
-fn before_arg(
-    s: &[u8],
-    at: usize,
-    k: usize,
-    params: usize,
-    n: usize,
-    records: &mut usize,
-    labels: &mut usize,
-) -> bool
-    requires { params + n ≤ length s.now }
-    ensures { result ≡ true → BeforeArg s.now at k params n records.old labels.old records.new labels.new }
-{
-    if n <= k {
-        return false;
-    }
-    if 15 < k {
-        if is_prvalue_ref(s, at) {
-            return false;
+    // The kinds that make labels or hold a run.
+    #[tactic(auto, using(std::proofs::lemmas::Option::IfSome_then, ir::proofs::KindLaws::expr_is, crate::proofs::ExprLaws::conditional_found, crate::proofs::ExprLaws::free_found, crate::proofs::ExprLaws::static_found))]
+    #[cycle(exprs)]
+    fn late_kind(&self, kind: ExprKind, at: usize, depth: usize, left: &mut Left) -> Option<usize>
+        requires { (at + 5 ≤ self.now.end) × (expr_code kind ≡ get_or self.now.unit.now (at + 4) 0) }
+        ensures { IfSome result (λ r. BodyAt depth self.now.unit.now self.now.end at r left.old left.new) }
+    {
+        let body = at + 5;
+        match kind {
+            ExprKind::Field => self.field(at, depth, left),
+            ExprKind::Conditional => {
+                left.pay_labels(2)?;
+                let test = self.expr(body, depth, left)?;
+                let then = self.expr(test, depth, left)?;
+                self.expr(then, depth, left)
+            }
+            ExprKind::Construct => self.construct(at, depth, left),
+            ExprKind::IntrinsicCall => self.intrinsic_call(at, depth, left),
+            ExprKind::FreeCall => self.call(body, depth, left),
+            ExprKind::StaticCall => {
+                left.pay_labels(1)?;
+                self.call(body, depth, left)
+            }
+            ExprKind::InstanceCall => self.instance_call(at, depth, left),
+            ExprKind::ClosureCall => self.closure_call(at, depth, left),
+            ExprKind::Nop
+            | ExprKind::Const
+            | ExprKind::Null
+            | ExprKind::NewInstance
+            | ExprKind::Local
+            | ExprKind::Assign
+            | ExprKind::Index
+            | ExprKind::DynCast => None,
         }
     }
-    let short = usize::from(s[params + k]);
-    if !pay(records, short) {
-        return false;
+
+    // Field: behind a Context, one record more, one for a weak reference, and a label.
+    #[tactic(auto, using(std::proofs::lemmas::Option::IfSome_then, crate::proofs::ExprLaws::field_found))]
+    #[cycle(exprs)]
+    fn field(&self, at: usize, depth: usize, left: &mut Left) -> Option<usize>
+        requires { (at + 5 ≤ self.now.end) × (get_or self.now.unit.now (at + 4) 0 ≡ 7) }
+        ensures { IfSome result (λ r. BodyAt depth self.now.unit.now self.now.end at r left.old left.new) }
+    {
+        let object = self.fields(at + 5, 5, 0, 3)?;
+        let form = usize::from(self.unit[at + 5]);
+        left.pay(form, form.min(1))?;
+        self.expr(object, depth, left)
     }
-    pay(labels, short)
+
+    // Construct, with fewer than 256 arguments.
+    #[tactic(auto, using(std::proofs::lemmas::Option::IfSome_then, crate::proofs::ExprLaws::construct_found))]
+    #[cycle(exprs)]
+    fn construct(&self, at: usize, depth: usize, left: &mut Left) -> Option<usize>
+        requires { (at + 5 ≤ self.now.end) × (get_or self.now.unit.now (at + 4) 0 ≡ 5) }
+        ensures { IfSome result (λ r. BodyAt depth self.now.unit.now self.now.end at r left.old left.new) }
+    {
+        let args = self.skip(at + 5, 4)?;
+        let mut items = 255;
+        self.run(args, depth, &mut items, left)
+    }
+
+    // An intrinsic call, without short-circuit mark and with the types that it needs.
+    #[tactic(auto, using(std::proofs::lemmas::Option::IfSome_then, crate::proofs::ExprLaws::intrinsic_found))]
+    #[cycle(exprs)]
+    fn intrinsic_call(&self, at: usize, depth: usize, left: &mut Left) -> Option<usize>
+        requires { (at + 5 ≤ self.now.end) × (get_or self.now.unit.now (at + 4) 0 ≡ 12) }
+        ensures { IfSome result (λ r. BodyAt depth self.now.unit.now self.now.end at r left.old left.new) }
+    {
+        let args = self.fields(at + 5, 7, 0, 34)?;
+        if !typed(
+            usize::from(self.unit[at + 5]),
+            usize::from(self.unit[at + 6]),
+            usize::from(self.unit[at + 7]),
+        ) {
+            return None;
+        }
+        let mut items = ITEMS;
+        self.run(args, depth, &mut items, left)
+    }
+
+    // An instance call: a Context, one record more for a weak reference, the object and the call.
+    #[tactic(auto, using(std::proofs::lemmas::Option::IfSome_then, crate::proofs::ExprLaws::instance_found))]
+    #[cycle(exprs)]
+    fn instance_call(&self, at: usize, depth: usize, left: &mut Left) -> Option<usize>
+        requires { (at + 5 ≤ self.now.end) × (get_or self.now.unit.now (at + 4) 0 ≡ 15) }
+        ensures { IfSome result (λ r. BodyAt depth self.now.unit.now self.now.end at r left.old left.new) }
+    {
+        let object = self.fields(at + 5, 1, 0, 2)?;
+        left.pay(1 + usize::from(self.unit[at + 5]), 1)?;
+        let function = self.expr(object, depth, left)?;
+        self.call(function, depth, left)
+    }
+
+    // A closure call: a Context, the closure, the invoke, the arguments, ParamEnd.
+    #[tactic(auto, using(std::proofs::lemmas::Option::IfSome_then, crate::proofs::ExprLaws::closure_found))]
+    #[cycle(exprs)]
+    fn closure_call(&self, at: usize, depth: usize, left: &mut Left) -> Option<usize>
+        requires { (at + 5 ≤ self.now.end) × (get_or self.now.unit.now (at + 4) 0 ≡ 16) }
+        ensures { IfSome result (λ r. BodyAt depth self.now.unit.now self.now.end at r left.old left.new) }
+    {
+        left.pay(2, 2)?;
+        let name = self.expr(at + 5, depth, left)?;
+        let args = self.skip(name, 6)?;
+        let mut items = ITEMS;
+        self.run(args, depth, &mut items, left)
+    }
+
+    // A run of expressions, no more than `items`, of which it takes their number: one number is the limit of Construct and the count of
+    // InitArray.
+    #[tactic(auto, using(crate::proofs::RunLaws::run_start, crate::proofs::RunLaws::run_more, crate::proofs::RunLaws::run_end))]
+    #[cycle(exprs)]
+    pub(crate) fn run(
+        &self,
+        at: usize,
+        depth: usize,
+        items: &mut usize,
+        left: &mut Left,
+    ) -> Option<usize>
+        requires { at ≤ self.now.end }
+        ensures { IfSome result (λ r. RunAt depth self.now.unit.now self.now.end at r items.old items.new left.old left.new) }
+    {
+        let run = Holder {
+            unit: self.unit,
+            end: self.span(at)?,
+        };
+        let mut next = at + 4;
+        while next < run.end {
+            *items = items.checked_sub(1)?;
+            next = run.expr(next, depth, left)?;
+        }
+        Some(run.end)
+    }
+
+    // A function, whose fields begin at `at`, and its arguments, which end where this node ends.
+    #[cycle(exprs)]
+    fn call(&self, at: usize, depth: usize, left: &mut Left) -> Option<usize>
+        requires { at ≤ self.now.end }
+        ensures { IfSome result (λ r. CallAt depth self.now.unit.now self.now.end at r left.old left.new) }
+    {
+        let marks = self.fields(at, 12, 10, 16)?;
+        let count = usize::from(self.unit[at + 11]);
+        let args = self.marks(marks, count)?;
+        self.close(self.span(args)?)?;
+        left.pay(1, 1)?;
+        self.arguments(args + 4, depth, Params { marks, count }, left)?;
+        Some(self.end)
+    }
+
+    // Arguments up to the end, no more than there are parameters: behind a Skip where the parameter's mark is 1, a Nop for each that is
+    // absent, and none flagged from index 16 on.
+    #[tactic(auto, using(crate::proofs::RunLaws::args_start, crate::proofs::RunLaws::args_more))]
+    #[cycle(exprs)]
+    fn arguments(&self, at: usize, depth: usize, params: Params, left: &mut Left) -> Option<()>
+        requires { (at ≤ self.now.end) × (params.marks + params.count ≤ at) × (params.count < 256) }
+        ensures { IfSome result (λ _. ArgsAt depth self.now.unit.now self.now.end at params.marks params.count left.old left.new) }
+    {
+        let mut next = at;
+        let mut k = 0;
+        while next < self.end {
+            self.before_arg(next, k, params, left)?;
+            next = self.expr(next, depth, left)?;
+            k += 1;
+        }
+        left.pay_records(params.count - k)
+    }
+
+    // What goes with argument k, which stands at `at`: a parameter, whose Skip is paid where its mark is 1, and no flag from 16 on.
+    fn before_arg(&self, at: usize, k: usize, params: Params, left: &mut Left) -> Option<()>
+        requires { params.marks + params.count ≤ self.now.end }
+        ensures { IfSome result (λ _. BeforeArg self.now.unit.now at k params.marks params.count left.old left.new) }
+    {
+        if params.count <= k {
+            return None;
+        }
+        if 15 < k && is_prvalue_ref(self.unit, at) {
+            return None;
+        }
+        let short = usize::from(self.unit[params.marks + k]);
+        left.pay(short, short)
+    }
 }

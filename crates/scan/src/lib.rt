@@ -1,6 +1,6 @@
 // One pass over the bytes of a unit, for units as they mostly are: it reads, no rule refuses it, and the room suffices. The pass counts
 // down what is left of records and labels, and carries no refusal. Where it does not answer yes, it says nothing, and the plain reader
-// and the dry walk decide.
+// and the walk into empty buffers decide.
 #![tactic(auto)]
 
 ghost use Rattle.std.specs.Prelude.{◌≡◌, true};
@@ -10,8 +10,9 @@ mod exprs;
 mod fields;
 mod stmts;
 
+use fields::{Holder, Left};
 use ir::DEPTH_LIMIT;
-use stmts::scan_block;
+use stmts::{Around, Inside};
 
 // Whether a unit is read, is refused nowhere, and takes no more than so many records and labels. False says nothing.
 pub fn fits(unit: &[u8], records: usize, labels: usize) -> bool
@@ -20,17 +21,14 @@ pub fn fits(unit: &[u8], records: usize, labels: usize) -> bool
     if !ir::front_good(unit) {
         return false;
     }
-    let end = unit.len();
-    let mut k = records;
-    let mut l = labels;
-    scan_block(
+    let whole = Holder {
         unit,
-        6,
-        end,
-        DEPTH_LIMIT,
-        usize::from(unit[5]),
-        0,
-        &mut k,
-        &mut l,
-    ) == end
+        end: unit.len(),
+    };
+    let around = Around {
+        returns: usize::from(unit[5]),
+        inside: Inside::Nothing,
+    };
+    let mut left = Left { records, labels };
+    whole.block(6, DEPTH_LIMIT, around, &mut left) == Some(whole.end)
 }

@@ -1,116 +1,85 @@
-// Statements and blocks: one cycle of calls, in which the depth that is left falls. `inside` is 2 in a loop, 1 in a switch that is in no
-// loop, else 0: what break and continue ask.
-ghost use Rattle.std.specs.Prelude.{◌≡◌, true, cond, ℕ, ◌+◌, ◌≤◌, ◌<◌, ◌^◌, length, get_or};
-ghost use Rattle.ir.specs.Kinds.{stmt_code};
-ghost use Rattle.scan.specs.Scanned.{Or0, BlockAt, StmtAt, ArmsAt, CasesAt, default_count, within};
+// Statements and blocks: one cycle of calls, in which the depth that is left falls.
+ghost use Rattle.std.specs.Prelude.{◌≡◌, ◌<◌};
+ghost use Rattle.scan.specs.Scanned.{default_count};
 
-use super::exprs::{ITEMS, scan_expr, scan_run};
-use super::fields::{after_fields, node_end, pay, span_end};
+use super::exprs::ITEMS;
+use super::fields::{Holder, Left};
 use instr::numbers::number_inside;
 use ir::stmt::StmtKind;
 
-// A block: its length and statements that fill it.
-#[cycle(stmts)]
-pub(crate) fn scan_block(
-    s: &[u8],
-    at: usize,
-    end: usize,
-    depth: usize,
-    returns: usize,
-    inside: usize,
-    records: &mut usize,
-    labels: &mut usize,
-) -> usize
-    requires { (at ≤ end) × (end ≤ length s.now) }
-    ensures { Or0 result (BlockAt depth s.now end at result returns inside records.old labels.old records.new labels.new) }
-{
-    if at == 0 {
-        return 0;
+// What a statement stands in, as far as break and continue ask: a switch is one that is in no loop.
+#[derive(Clone, Copy, Debug, PartialEq, Eq)]
+pub(crate) enum Inside {
+    Nothing,
+    Switch,
+    Loop,
+}
+
+// What is around a statement: the unit's return byte, a number as in the definitions, and what it stands in.
+#[derive(Clone, Copy, Debug, PartialEq, Eq)]
+pub(crate) struct Around {
+    pub(crate) returns: usize,
+    pub(crate) inside: Inside,
+}
+
+impl Inside {
+    ghost use Rattle.std.specs.Prelude.{◌≡◌, nat_lt};
+    ghost use Rattle.scan.specs.Scanned.{number_of, within};
+
+    // Whether break has somewhere to go.
+    fn takes_break(self) -> bool
+        ensures { result ≡ nat_lt 0 (number_of self) }
+    {
+        self != Inside::Nothing
     }
-    let stop = span_end(s, at, end);
-    if stop == 0 {
-        return 0;
+
+    // Whether continue has.
+    fn takes_continue(self) -> bool
+        ensures { result ≡ nat_lt 1 (number_of self) }
+    {
+        self == Inside::Loop
     }
-    let mut next = at + 4;
-    while next < stop {
-        let last = node_end(s, next, stop, depth);
-        if last == 0 {
-            return 0;
+
+    // In a switch, break has somewhere to go.
+    #[tactic(auto, unfolding(crate::specs::Scanned::within))]
+    fn in_switch(self) -> Self
+        ensures { number_of result ≡ within (number_of self) }
+    {
+        match self {
+            Inside::Nothing => Inside::Switch,
+            Inside::Switch => Inside::Switch,
+            Inside::Loop => Inside::Loop,
         }
-        let below = depth - 1;
-        let Ok(kind) = StmtKind::try_from(s[next + 4]) else {
-            return 0;
-        };
-        let to = match kind {
-            StmtKind::Expr => scan_expr(s, next + 5, last, below, records, labels),
-            _ => scan_stmt(kind, s, next, last, below, returns, inside, records, labels),
-        };
-        if to != last {
-            return 0;
+    }
+}
+
+impl Left {
+    ghost use Rattle.std.specs.Prelude.{◌≡◌, true, cond, ◌+◌, ◌≤◌, ◌<◌, ◌^◌, IfSome};
+    ghost use Rattle.scan.specs.Scanned.{Paid};
+
+    // Break or continue, where it may stand.
+    fn pay_jump(&mut self, stands: bool) -> Option<()>
+        ensures { IfSome result (λ _. («stands» ≡ true) × Paid self.old self.new 1 0) }
+    {
+        if !stands {
+            return None;
         }
-        next = last;
+        self.pay_records(1)
     }
-    stop
-}
 
-// What the statement's kind asks, of any kind but Expr.
-#[cycle(stmts)]
-fn scan_stmt(
-    kind: StmtKind,
-    s: &[u8],
-    at: usize,
-    stop: usize,
-    depth: usize,
-    returns: usize,
-    inside: usize,
-    records: &mut usize,
-    labels: &mut usize,
-) -> usize
-    requires { (at + 5 ≤ stop) × (stop ≤ length s.now) × (stmt_code kind ≡ get_or s.now (at + 4) 0) }
-    ensures { Or0 result (StmtAt depth s.now stop at result returns inside records.old labels.old records.new labels.new) }
-{
-    let body = at + 5;
-    match kind {
-        StmtKind::Block => scan_block(s, body, stop, depth, returns, inside, records, labels),
-        StmtKind::While => scan_while(s, at, stop, depth, returns, records, labels),
-        StmtKind::Branches => scan_branches(s, at, stop, depth, returns, inside, records, labels),
-        StmtKind::Switch => scan_switch(s, at, stop, depth, returns, inside, records, labels),
-        StmtKind::InitArray => scan_array(s, at, stop, depth, records, labels),
-        StmtKind::InitDefault => scan_default(s, at, stop, records),
-        StmtKind::Break => scan_jump(body, 0 < inside, records),
-        StmtKind::Continue => scan_jump(body, 1 < inside, records),
-        StmtKind::Return => scan_return(s, at, stop, depth, returns, records, labels),
-        StmtKind::Expr => 0,
+    // What n cases take: a record and a label each; a mid default's Jump, its body and theirs, or else a body for each group.
+    // They are taken one by one: with `pay` the compiler holds less of a block's loop in registers, and a loop's statements take longer.
+    fn pay_cases(&mut self, n: usize, groups: usize, mid: bool) -> Option<()>
+        requires { (groups ≤ n) × (n < 2 ^ 63) }
+        ensures { IfSome result (λ _. Paid self.old self.new (n + cond «mid» 1 0) (n + cond «mid» (n + 1) groups)) }
+    {
+        if mid {
+            self.pay_records(n + 1)?;
+            return self.pay_labels(2 * n + 1);
+        }
+        self.pay_records(n)?;
+        self.pay_labels(n + groups)
     }
-}
-
-// Break or continue, where it may stand.
-fn scan_jump(body: usize, stands: bool, records: &mut usize) -> usize
-    ensures { Or0 result ((result ≡ body) × («stands» ≡ true) × (records.new + 1 ≡ records.old)) }
-{
-    if !stands {
-        return 0;
-    }
-    if !pay(records, 1) {
-        return 0;
-    }
-    body
-}
-
-// InitDefault: so many records as its byte says.
-fn scan_default(s: &[u8], at: usize, stop: usize, records: &mut usize) -> usize
-    requires { (at + 5 ≤ stop) × (stop ≤ length s.now) }
-    ensures { Or0 result ((result ≡ at + 5 + 9) × (at + 5 + 9 ≤ stop) × (get_or s.now (at + 5 + 4) 0 < 23) × (records.new + default_count (get_or s.now (at + 5 + 4) 0) ≡ records.old)) }
-{
-    let body = at + 5;
-    let a = after_fields(s, body, stop, 9, 4, 23);
-    if a == 0 {
-        return 0;
-    }
-    if !pay(records, default_count(s[body + 4])) {
-        return 0;
-    }
-    a
 }
 
 // How many records an InitDefault emits, by its byte.
@@ -127,278 +96,241 @@ fn default_count(byte: u8) -> usize
     }
 }
 
-// While: JumpIfFalse and Jump, and two labels.
-#[cycle(stmts)]
-fn scan_while(
-    s: &[u8],
-    at: usize,
-    stop: usize,
-    depth: usize,
-    returns: usize,
-    records: &mut usize,
-    labels: &mut usize,
-) -> usize
-    requires { (at + 5 ≤ stop) × (stop ≤ length s.now) × (get_or s.now (at + 4) 0 ≡ 3) }
-    ensures { Or0 result (StmtAt depth s.now stop at result returns 0 records.old labels.old records.new labels.new) }
-{
-    if !pay(records, 2) {
-        return 0;
-    }
-    if !pay(labels, 2) {
-        return 0;
-    }
-    let a = scan_expr(s, at + 5, stop, depth, records, labels);
-    scan_block(s, a, stop, depth, returns, 2, records, labels)
-}
+impl Holder<'_> {
+    ghost use Rattle.std.specs.Prelude.{◌≡◌, ℕ, ◌+◌, ◌≤◌, ◌<◌, get_or, IfSome};
+    ghost use Rattle.ir.specs.Kinds.{stmt_code};
+    ghost use Rattle.scan.specs.Scanned.{BlockAt, StatementAt, StmtAt, ArmsAt, CasesAt, Paid, default_count, number_of};
 
-// InitArray: three records, and four for each element; none for no element.
-fn scan_array(
-    s: &[u8],
-    at: usize,
-    stop: usize,
-    depth: usize,
-    records: &mut usize,
-    labels: &mut usize,
-) -> usize
-    requires { (at + 5 ≤ stop) × (stop ≤ length s.now) × (get_or s.now (at + 4) 0 ≡ 6) }
-    ensures { Or0 result ((returns inside : ℕ) → StmtAt depth s.now stop at result returns inside records.old labels.old records.new labels.new) }
-{
-    let body = at + 5;
-    if stop - body < 8 {
-        return 0;
+    // A block: its length and statements that fill it.
+    #[tactic(auto, using(crate::proofs::StmtLoops::stmts_none, crate::proofs::StmtLoops::stmts_one, crate::proofs::StmtLoops::stmts_all))]
+    #[cycle(stmts)]
+    pub(crate) fn block(
+        &self,
+        at: usize,
+        depth: usize,
+        around: Around,
+        left: &mut Left,
+    ) -> Option<usize>
+        requires { at ≤ self.now.end }
+        ensures { IfSome result (λ r. BlockAt depth self.now.unit.now self.now.end at r around.returns (number_of around.inside) left.old left.new) }
+    {
+        let block = Holder {
+            unit: self.unit,
+            end: self.span(at)?,
+        };
+        let mut next = at + 4;
+        while next < block.end {
+            next = block.stmt(next, depth, around, left)?;
+        }
+        Some(block.end)
     }
-    let mut items = ITEMS;
-    let a = scan_run(s, body + 8, stop, depth, &mut items, records, labels);
-    if items < ITEMS {
-        if !pay(records, 3 + 4 * (ITEMS - items)) {
-            return 0;
+
+    // A statement.
+    #[tactic(auto, using(std::proofs::lemmas::Option::IfSome_then, crate::proofs::StmtFound::stmt_found))]
+    #[cycle(stmts)]
+    fn stmt(&self, at: usize, depth: usize, around: Around, left: &mut Left) -> Option<usize>
+        requires { at ≤ self.now.end }
+        ensures { IfSome result (λ r. StatementAt depth self.now.unit.now self.now.end at r around.returns (number_of around.inside) left.old left.new) }
+    {
+        let node = Holder {
+            unit: self.unit,
+            end: self.node(at, depth)?,
+        };
+        let Ok(kind) = StmtKind::try_from(self.unit[at + 4]) else {
+            return None;
+        };
+        let last = node.stmt_kind(kind, at, depth - 1, around, left)?;
+        node.close(last)
+    }
+
+    // What the statement's kind asks, of this node, with depth for the nodes in it.
+    #[tactic(auto, using(std::proofs::lemmas::Option::IfSome_then, ir::proofs::KindLaws::stmt_is, crate::proofs::StmtFound::expr_stmt_found, crate::proofs::StmtFound::block_found, crate::proofs::StmtFound::default_found, crate::proofs::StmtFound::break_found, crate::proofs::StmtFound::continue_found))]
+    #[cycle(stmts)]
+    fn stmt_kind(
+        &self,
+        kind: StmtKind,
+        at: usize,
+        depth: usize,
+        around: Around,
+        left: &mut Left,
+    ) -> Option<usize>
+        requires { (at + 5 ≤ self.now.end) × (stmt_code kind ≡ get_or self.now.unit.now (at + 4) 0) }
+        ensures { IfSome result (λ r. StmtAt depth self.now.unit.now self.now.end at r around.returns (number_of around.inside) left.old left.new) }
+    {
+        let body = at + 5;
+        match kind {
+            StmtKind::Expr => self.expr(body, depth, left),
+            StmtKind::Block => self.block(body, depth, around, left),
+            StmtKind::While => self.while_loop(at, depth, around.returns, left),
+            StmtKind::Branches => self.branches(at, depth, around, left),
+            StmtKind::Switch => self.switch(at, depth, around, left),
+            StmtKind::InitArray => self.init_array(at, depth, left),
+            StmtKind::InitDefault => self.init_default(at, left),
+            StmtKind::Break => {
+                left.pay_jump(around.inside.takes_break())?;
+                Some(body)
+            }
+            StmtKind::Continue => {
+                left.pay_jump(around.inside.takes_continue())?;
+                Some(body)
+            }
+            StmtKind::Return => self.returned(at, depth, around.returns, left),
         }
     }
-    a
-}
 
-// Return: two records where nothing is returned, or where the unit returns nothing.
-fn scan_return(
-    s: &[u8],
-    at: usize,
-    stop: usize,
-    depth: usize,
-    returns: usize,
-    records: &mut usize,
-    labels: &mut usize,
-) -> usize
-    requires { (at + 5 ≤ stop) × (stop ≤ length s.now) × (get_or s.now (at + 4) 0 ≡ 10) }
-    ensures { Or0 result (StmtAt depth s.now stop at result returns 0 records.old labels.old records.new labels.new) }
-{
-    let body = at + 5;
-    let a = after_fields(s, body, stop, 1, 0, 2);
-    if a == 0 {
-        return 0;
+    // InitDefault: so many records as its byte says.
+    fn init_default(&self, at: usize, left: &mut Left) -> Option<usize>
+        requires { at + 5 ≤ self.now.end }
+        ensures { IfSome result (λ r. (r ≡ at + 5 + 9) × (r ≤ self.now.end) × (get_or self.now.unit.now (at + 5 + 4) 0 < 23) × Paid left.old left.new (default_count (get_or self.now.unit.now (at + 5 + 4) 0)) 0) }
+    {
+        let next = self.fields(at + 5, 9, 4, 23)?;
+        left.pay_records(default_count(self.unit[at + 9]))?;
+        Some(next)
     }
-    if s[body] == 0 {
-        if !pay(records, 2) {
-            return 0;
-        }
-        return a;
-    }
-    let own = if returns == 0 { 2 } else { 1 };
-    if !pay(records, own) {
-        return 0;
-    }
-    scan_expr(s, a, stop, depth, records, labels)
-}
 
-// Branches: two labels, and two records and a label for each.
-#[cycle(stmts)]
-fn scan_branches(
-    s: &[u8],
-    at: usize,
-    stop: usize,
-    depth: usize,
-    returns: usize,
-    inside: usize,
-    records: &mut usize,
-    labels: &mut usize,
-) -> usize
-    requires { (at + 5 ≤ stop) × (stop ≤ length s.now) × (get_or s.now (at + 4) 0 ≡ 4) }
-    ensures { Or0 result (StmtAt depth s.now stop at result returns inside records.old labels.old records.new labels.new) }
-{
-    if !pay(labels, 2) {
-        return 0;
+    // While: JumpIfFalse and Jump, and two labels.
+    #[tactic(auto, using(std::proofs::lemmas::Option::IfSome_then, crate::proofs::StmtFound::while_found))]
+    #[cycle(stmts)]
+    fn while_loop(&self, at: usize, depth: usize, returns: usize, left: &mut Left) -> Option<usize>
+        requires { (at + 5 ≤ self.now.end) × (get_or self.now.unit.now (at + 4) 0 ≡ 3) }
+        ensures { IfSome result (λ r. StmtAt depth self.now.unit.now self.now.end at r returns 0 left.old left.new) }
+    {
+        left.pay(2, 2)?;
+        let body = self.expr(at + 5, depth, left)?;
+        let around = Around {
+            returns,
+            inside: Inside::Loop,
+        };
+        self.block(body, depth, around, left)
     }
-    let a = scan_arms(s, at + 5, stop, depth, returns, inside, records, labels);
-    if a == 0 {
-        return 0;
-    }
-    let b = after_fields(s, a, stop, 1, 0, 2);
-    if b == 0 {
-        return 0;
-    }
-    if s[a] == 0 {
-        return b;
-    }
-    scan_block(s, b, stop, depth, returns, inside, records, labels)
-}
 
-// The run of branches.
-#[cycle(stmts)]
-fn scan_arms(
-    s: &[u8],
-    at: usize,
-    end: usize,
-    depth: usize,
-    returns: usize,
-    inside: usize,
-    records: &mut usize,
-    labels: &mut usize,
-) -> usize
-    requires { (at ≤ end) × (end ≤ length s.now) }
-    ensures { Or0 result (ArmsAt depth s.now end at result returns inside records.old labels.old records.new labels.new) }
-{
-    let stop = span_end(s, at, end);
-    if stop == 0 {
-        return 0;
+    // InitArray: three records, and four for each element; none for no element.
+    fn init_array(&self, at: usize, depth: usize, left: &mut Left) -> Option<usize>
+        requires { (at + 5 ≤ self.now.end) × (get_or self.now.unit.now (at + 4) 0 ≡ 6) }
+        ensures { IfSome result (λ r. (returns inside : ℕ) → StmtAt depth self.now.unit.now self.now.end at r returns inside left.old left.new) }
+    {
+        let elements = self.skip(at + 5, 8)?;
+        let mut items = ITEMS;
+        let next = self.run(elements, depth, &mut items, left)?;
+        if items < ITEMS {
+            left.pay_records(3 + 4 * (ITEMS - items))?;
+        }
+        Some(next)
     }
-    let mut next = at + 4;
-    while next < stop {
-        if !pay(records, 2) {
-            return 0;
-        }
-        if !pay(labels, 1) {
-            return 0;
-        }
-        let p = scan_expr(s, next, stop, depth, records, labels);
-        let q = scan_block(s, p, stop, depth, returns, inside, records, labels);
-        if q == 0 {
-            return 0;
-        }
-        next = q;
-    }
-    stop
-}
 
-// In a switch, break has somewhere to go.
-fn in_switch(inside: usize) -> usize
-    ensures { result ≡ within inside }
-{
-    if inside == 0 {
-        return 1;
-    }
-    inside
-}
-
-// Switch: the Switch and two labels, its cases, its default.
-#[cycle(stmts)]
-fn scan_switch(
-    s: &[u8],
-    at: usize,
-    stop: usize,
-    depth: usize,
-    returns: usize,
-    inside: usize,
-    records: &mut usize,
-    labels: &mut usize,
-) -> usize
-    requires { (at + 5 ≤ stop) × (stop ≤ length s.now) × (get_or s.now (at + 4) 0 ≡ 5) }
-    ensures { Or0 result (StmtAt depth s.now stop at result returns inside records.old labels.old records.new labels.new) }
-{
-    let body = at + 5;
-    if stop - body < 4 {
-        return 0;
-    }
-    if !pay(records, 1) {
-        return 0;
-    }
-    if !pay(labels, 2) {
-        return 0;
-    }
-    let a = scan_expr(s, body + 4, stop, depth, records, labels);
-    if a == 0 {
-        return 0;
-    }
-    let b = after_fields(s, a, stop, 5, 4, 2);
-    if b == 0 {
-        return 0;
-    }
-    let mark = usize::from(s[a + 4]);
-    let within = in_switch(inside);
-    let c = scan_cases(
-        s,
-        b,
-        stop,
-        depth,
-        returns,
-        within,
-        number_inside::<4>(s, a) as usize,
-        mark,
-        records,
-        labels,
-    );
-    if mark == 0 {
-        return c;
-    }
-    if !pay(records, 1) {
-        return 0;
-    }
-    scan_block(s, c, stop, depth, returns, within, records, labels)
-}
-
-// The run of cases: a record each, and the labels of either layout. A mid default has a Jump.
-#[cycle(stmts)]
-fn scan_cases(
-    s: &[u8],
-    at: usize,
-    end: usize,
-    depth: usize,
-    returns: usize,
-    inside: usize,
-    index: usize,
-    mark: usize,
-    records: &mut usize,
-    labels: &mut usize,
-) -> usize
-    requires { (at ≤ end) × (end ≤ length s.now) }
-    ensures { Or0 result (CasesAt depth s.now end at result returns inside index mark records.old labels.old records.new labels.new) }
-{
-    let stop = span_end(s, at, end);
-    if stop == 0 {
-        return 0;
-    }
-    let mut next = at + 4;
-    let mut n = 0;
-    let mut groups = 0;
-    while next < stop {
-        let p = scan_expr(s, next, stop, depth, records, labels);
-        let q = scan_block(s, p, stop, depth, returns, inside, records, labels);
-        if q == 0 {
-            return 0;
+    // Return: two records where nothing is returned, or where the unit returns nothing.
+    fn returned(&self, at: usize, depth: usize, returns: usize, left: &mut Left) -> Option<usize>
+        requires { (at + 5 ≤ self.now.end) × (get_or self.now.unit.now (at + 4) 0 ≡ 10) }
+        ensures { IfSome result (λ r. StmtAt depth self.now.unit.now self.now.end at r returns 0 left.old left.new) }
+    {
+        let value = self.fields(at + 5, 1, 0, 2)?;
+        if self.unit[at + 5] == 0 {
+            left.pay_records(2)?;
+            return Some(value);
         }
-        n += 1;
-        if (p + 4 < q) | (q == stop) {
-            groups += 1;
-        }
-        next = q;
+        let own = if returns == 0 { 2 } else { 1 };
+        left.pay_records(own)?;
+        self.expr(value, depth, left)
     }
-    let mid = (mark == 1) & (index < n);
-    if !pay_cases(n, groups, mid, records, labels) {
-        return 0;
-    }
-    stop
-}
 
-// What n cases take: a record and a label each; a mid default's Jump, its body and theirs, or else a body for each group.
-fn pay_cases(n: usize, groups: usize, mid: bool, records: &mut usize, labels: &mut usize) -> bool
-    requires { (groups ≤ n) × (n < 2 ^ 63) }
-    ensures { result ≡ true → (records.new + (n + cond «mid» 1 0) ≡ records.old) × (labels.new + (n + cond «mid» (n + 1) groups) ≡ labels.old) }
-{
-    if mid {
-        if !pay(records, n + 1) {
-            return false;
+    // Branches: two labels, and two records and a label for each.
+    #[tactic(auto, using(std::proofs::lemmas::Option::IfSome_then, crate::proofs::StmtFound::branches_found, crate::proofs::StmtFound::branches_found_with))]
+    #[cycle(stmts)]
+    fn branches(&self, at: usize, depth: usize, around: Around, left: &mut Left) -> Option<usize>
+        requires { (at + 5 ≤ self.now.end) × (get_or self.now.unit.now (at + 4) 0 ≡ 4) }
+        ensures { IfSome result (λ r. StmtAt depth self.now.unit.now self.now.end at r around.returns (number_of around.inside) left.old left.new) }
+    {
+        left.pay_labels(2)?;
+        let mark = self.arms(at + 5, depth, around, left)?;
+        let default = self.fields(mark, 1, 0, 2)?;
+        if self.unit[mark] == 0 {
+            return Some(default);
         }
-        return pay(labels, 2 * n + 1);
+        self.block(default, depth, around, left)
     }
-    if !pay(records, n) {
-        return false;
+
+    // The run of branches.
+    #[tactic(auto, using(crate::proofs::StmtLoops::arms_none, crate::proofs::StmtLoops::arms_one, crate::proofs::StmtLoops::arms_all))]
+    #[cycle(stmts)]
+    fn arms(&self, at: usize, depth: usize, around: Around, left: &mut Left) -> Option<usize>
+        requires { at ≤ self.now.end }
+        ensures { IfSome result (λ r. ArmsAt depth self.now.unit.now self.now.end at r around.returns (number_of around.inside) left.old left.new) }
+    {
+        let run = Holder {
+            unit: self.unit,
+            end: self.span(at)?,
+        };
+        let mut next = at + 4;
+        while next < run.end {
+            left.pay(2, 1)?;
+            let test = run.expr(next, depth, left)?;
+            next = run.block(test, depth, around, left)?;
+        }
+        Some(run.end)
     }
-    pay(labels, n + groups)
+
+    // Switch: the Switch and two labels, its cases, its default.
+    #[tactic(auto, using(std::proofs::lemmas::Option::IfSome_then, crate::proofs::StmtFound::switch_none, crate::proofs::StmtFound::switch_some))]
+    #[cycle(stmts)]
+    fn switch(&self, at: usize, depth: usize, around: Around, left: &mut Left) -> Option<usize>
+        requires { (at + 5 ≤ self.now.end) × (get_or self.now.unit.now (at + 4) 0 ≡ 5) }
+        ensures { IfSome result (λ r. StmtAt depth self.now.unit.now self.now.end at r around.returns (number_of around.inside) left.old left.new) }
+    {
+        let on = self.skip(at + 5, 4)?;
+        left.pay(1, 2)?;
+        let index = self.expr(on, depth, left)?;
+        let cases = self.fields(index, 5, 4, 2)?;
+        let mark = usize::from(self.unit[index + 4]);
+        let within = Around {
+            returns: around.returns,
+            inside: around.inside.in_switch(),
+        };
+        let default = self.cases(
+            cases,
+            depth,
+            within,
+            number_inside::<4>(self.unit, index) as usize,
+            mark,
+            left,
+        )?;
+        if mark == 0 {
+            return Some(default);
+        }
+        left.pay_records(1)?;
+        self.block(default, depth, within, left)
+    }
+
+    // The run of cases: a record each, and the labels of either layout. A mid default has a Jump.
+    #[tactic(auto, using(crate::proofs::StmtLoops::cased_none))]
+    #[cycle(stmts)]
+    fn cases(
+        &self,
+        at: usize,
+        depth: usize,
+        around: Around,
+        index: usize,
+        mark: usize,
+        left: &mut Left,
+    ) -> Option<usize>
+        requires { at ≤ self.now.end }
+        ensures { IfSome result (λ r. CasesAt depth self.now.unit.now self.now.end at r around.returns (number_of around.inside) index mark left.old left.new) }
+    {
+        let run = Holder {
+            unit: self.unit,
+            end: self.span(at)?,
+        };
+        let mut next = at + 4;
+        let mut n = 0;
+        let mut groups = 0;
+        while next < run.end {
+            let block = run.expr(next, depth, left)?;
+            next = run.block(block, depth, around, left)?;
+            n += 1;
+            if block + 4 < next || next == run.end {
+                groups += 1;
+            }
+        }
+        left.pay_cases(n, groups, mark == 1 && index < n)?;
+        Some(run.end)
+    }
 }

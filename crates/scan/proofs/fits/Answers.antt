@@ -11,10 +11,9 @@ pub bounds-unit-5 : goal.bounds-unit-5
 bounds-unit-5 c =
     let h = front_six _ (front_is_good _ _ c.front_good.ensures c.if-not-front_good.false) in omega (arith, h)
 
-pub scan_block-requires : goal.scan_block-requires
-scan_block-requires c =
-    (front_six _ (front_is_good _ _ c.front_good.ensures c.if-not-front_good.false), omega arith)
+pub block-requires : goal.block-requires
+block-requires c =
+    front_six _ (front_is_good _ _ c.front_good.ensures c.if-not-front_good.false)
 
 pub returns : goal.returns
-returns c =
-    unit_fits _ _ _ (front_is_good _ _ c.front_good.ensures c.if-not-front_good.false) c.from.ensures c.scan_block.ensures
+returns c = unit_fits _ _ _ _ _ (front_is_good _ _ c.front_good.ensures c.if-not-front_good.false) c.from.ensures c.block.ensures c.eq.ensures
