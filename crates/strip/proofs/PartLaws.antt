@@ -1,13 +1,12 @@
 -- The parts of a kind, and one part after another: what the code does is what the definition's list of parts says. Assumes nothing.
-use Prim.Native.Nat.{ℕ, zero, suc, ◌+◌, ◌-◌, ◌≤◌, ◌<◌}
+use Prim.Native.Nat.{ℕ, zero, suc, ◌-◌, ◌≤◌, ◌<◌}
 use mathlib.Core.Path.{◌≡◌, refl, sym, ap, subst, ◌∙◌}
 use mathlib.Core.Bool.{Bool, true, false, ◌&&◌}
-use Rattle.std.specs.Prelude.{Option, Some, None}
+use Rattle.std.specs.Prelude.{Option, Some}
 use mathlib.Core.List.{List, [], ◌∷◌, ◌++◌}
 use mathlib.Core.Logic.{inl, inr}
 use mathlib.Core.Option.{none}
 use native.Mathlib.Omega.{arith}
-use native.Mathlib.Numerals.{add-one}
 use lib.Dec.{leb, eqb}
 use lib.ListN.{length, get_or, get_elem?, take, drop, drop_of_length-le}
 use lib.Seq.{drop-cons}
@@ -17,7 +16,8 @@ use Rattle.laws.proofs.Inversion.{impossible}
 use Rattle.definitions.specs.Strip as definition
 use Rattle.definitions.specs.Strip.{Strip, only, nothing, ◌and◌, keep, keep_below, strip_run, strip_parts, strip_expr, strip_stmt, parts_of, expr_parts, stmt_parts}
 use Rattle.strip.specs.Parts.{part_is, listed, item_of, of_class}
-use Rattle.strip.specs.Passing.{fitting, pass_if, below_of, handed, closed_args, put_if, whole, Copied, Did, Within, Parted, parts_in, KeptBy, Ready, params_step, constant_step}
+use Rattle.strip.specs.declared.fields.Passed.{Passed}
+use Rattle.strip.specs.Passing.{passed, fitting, pass_if, below_of, handed, closed_args, put_if, whole, Copied, Did, Within, Parted, parts_in, KeptBy, params_step, constant_step}
 use Rattle.ir.specs.declared.Class.{Class}
 use Rattle.ir.specs.declared.Class.TheVariants.{Statement, Expression}
 use Rattle.ir.specs.declared.Item.{Item}
@@ -52,7 +52,7 @@ no_stmt Expression kind e h = impossible (cc)
 
 -- 2. Parts
 
-module _ (depth blocks : ℕ) (s : List ℕ) (end : ℕ) (part : Part) (at n : ℕ) (o : List ℕ) (r : Option (ℕ × ℕ)) (o' : List ℕ) where
+module _ (depth blocks : ℕ) (s : List ℕ) (end : ℕ) (part : Part) (at n : ℕ) (o : List ℕ) (r : Option Passed) (o' : List ℕ) where
   -- a step that is the part's
   abbrev Is : (step : (ℕ → Strip) → Strip) → Part → Type 0
   Is step p = (ps : List definition.Part) (rest : ℕ → List ℕ) → step (parts_in depth blocks s end ps) rest at ≡ parts_in depth blocks s end (part_is p ++ ps) n rest at
@@ -64,9 +64,9 @@ module _ (depth blocks : ℕ) (s : List ℕ) (end : ℕ) (part : Part) (at n : �
   parted step p e h d = subst (λ (part : Part). Parted depth blocks s end part at n o r o') (sym e)
       (record { same = λ ps rest. d.same (parts_in depth blocks s end ps) rest ∙ ap (λ (x : List ℕ). take at o ++ x) (h ps rest); left = d.left })
 
-  pub a_free : (w : ℕ) → part ≡ Free w → Ready s at end o → r ≡ fitting at w end n → o' ≡ put_if at w end 0 o → Does
+  pub a_free : (w : ℕ) → part ≡ Free w → end ≤ length s → Copied s at o → r ≡ fitting at w end n → o' ≡ put_if at w end 0 o → Does
   unfolding strip_parts
-  a_free w e h f k = parted _ (Free w) e (λ ps rest. refl) (blanks s o o' at n end w 0 (λ x. 0) r refl h f k)
+  a_free w e l c f k = parted _ (Free w) e (λ ps rest. refl) (blanks s o o' at n end w 0 (λ x. 0) r refl l c f k)
 
   pub a_kept : (w : ℕ) → part ≡ Kept w → o' ≡ o → Copied s at o → r ≡ fitting at w end n → Does
   unfolding strip_parts
@@ -94,17 +94,17 @@ module _ (depth blocks : ℕ) (s : List ℕ) (end : ℕ) (part : Part) (at n : �
   run_is (Node Expression) ps rest = refl
   run_is Arm ps rest = refl
 
-  pub a_run : (item : Item) (r₀ : Option (ℕ × ℕ)) → part ≡ Run item → Did s at o (strip_run s end (item_of item depth blocks s)) r₀ o' → r ≡ handed n r₀ → Does
+  pub a_run : (item : Item) (r₀ : Option Passed) → part ≡ Run item → Did s at o (strip_run s end (item_of item depth blocks s)) r₀ o' → r ≡ handed n r₀ → Does
   a_run item r₀ e d h = parted _ (Run item) e (run_is item) (guards s o o' at (λ a k. true) (λ k. n) (strip_run s end (item_of item depth blocks s)) r₀ r d h)
 
-  pub an_arguments : (r₀ : Option (ℕ × ℕ)) → part ≡ Arguments → Did s at o (strip_run s end (strip_expr depth s)) r₀ o' → r ≡ closed_args end n r₀ → Does
+  pub an_arguments : (r₀ : Option Passed) → part ≡ Arguments → Did s at o (strip_run s end (strip_expr depth s)) r₀ o' → r ≡ closed_args end n r₀ → Does
   unfolding strip_parts
   an_arguments r₀ e d h =
       parted _ Arguments e (λ ps rest. refl) (guards s o o' at (λ a k. eqb a end && leb k n) (λ k. n) (strip_run s end (strip_expr depth s)) r₀ r d h)
 
   -- nothing is there
-  stands : o' ≡ o → r ≡ Some (at, n) → Copied s at o → Did s at o (λ next. next n) r o'
-  stands k h c = subst (λ (o' : List ℕ). Did s at o (λ next. next n) r o') (sym k) (subst (λ (r : Option (ℕ × ℕ)). Did s at o (λ next. next n) r o) (sym h) (standing s o at n c))
+  stands : o' ≡ o → r ≡ Some (passed at n) → Copied s at o → Did s at o (λ next. next n) r o'
+  stands k h c = subst (λ (o' : List ℕ). Did s at o (λ next. next n) r o') (sym k) (subst (λ (r : Option Passed). Did s at o (λ next. next n) r o) (sym h) (standing s o at n c))
 
   nothing_is : n ≡ 0 → Is (λ next. next n) ValueIf × Is (λ next. next n) BlockIf
   unfolding strip_parts
@@ -118,16 +118,16 @@ module _ (depth blocks : ℕ) (s : List ℕ) (end : ℕ) (part : Part) (at n : �
   unfolding strip_parts
   block_is m h = rw h (λ ps rest. refl)
 
-  pub no_value : part ≡ ValueIf → n ≡ 0 → o' ≡ o → r ≡ Some (at, n) → Copied s at o → Does
+  pub no_value : part ≡ ValueIf → n ≡ 0 → o' ≡ o → r ≡ Some (passed at n) → Copied s at o → Does
   no_value e z k h c = parted (λ next. next n) ValueIf e (nothing_is z).0 (stands k h c)
 
   pub some_value : part ≡ ValueIf → (n ≡ 0 → ⊥) → Did s at o (λ next. strip_expr depth s end and next n) r o' → Does
   some_value e z d = parted _ ValueIf e (value_is (n - 1) (omega arith)) d
 
-  pub no_block : part ≡ BlockIf → n ≡ 0 → o' ≡ o → r ≡ Some (at, n) → Copied s at o → Does
+  pub no_block : part ≡ BlockIf → n ≡ 0 → o' ≡ o → r ≡ Some (passed at n) → Copied s at o → Does
   no_block e z k h c = parted (λ next. next n) BlockIf e (nothing_is z).1 (stands k h c)
 
-  pub some_block : (r₀ : Option (ℕ × ℕ)) → part ≡ BlockIf → (n ≡ 0 → ⊥) → Did s at o (strip_run s end (strip_stmt blocks s)) r₀ o' → r ≡ handed n r₀ → Does
+  pub some_block : (r₀ : Option Passed) → part ≡ BlockIf → (n ≡ 0 → ⊥) → Did s at o (strip_run s end (strip_stmt blocks s)) r₀ o' → r ≡ handed n r₀ → Does
   some_block r₀ e z d h = parted _ BlockIf e (block_is (n - 1) (omega arith)) (guards s o o' at (λ a k. true) (λ k. n) (strip_run s end (strip_stmt blocks s)) r₀ r d h)
 
 -- 3. One part after another
@@ -144,24 +144,12 @@ module _ (depth blocks : ℕ) (s : List ℕ) (end : ℕ) (parts : List Part) (at
   abbrev parts_step : (ℕ → Strip) → Strip
   parts_step next = parts_in depth blocks s end (listed parts) 0 and next n
 
-  turn : (out : List ℕ) (next last i : ℕ) (d₀ p : Part) (r : Option (ℕ × ℕ)) (out' : List ℕ) → i < length parts → p ≡ get_or parts i d₀ → ThroughTo out next last i → Parted depth blocks s end p next last out r out'
+  turn : (out : List ℕ) (next last i : ℕ) (d₀ p : Part) (r : Option Passed) (out' : List ℕ) → i < length parts → p ≡ get_or parts i d₀ → ThroughTo out next last i → Parted depth blocks s end p next last out r out'
       → (rest : ℕ → List ℕ) → whole r out' (λ m. parts_in depth blocks s end (listed (drop (suc i) parts)) m rest) ≡ take at o ++ parts_in depth blocks s end (listed parts) 0 rest at
   turn out next last i d₀ p r out' l e h d rest =
       let j : drop i parts ≡ p ∷ drop (suc i) parts = rw e (drop-cons parts i d₀ l) in
       d.same (listed (drop (suc i) parts)) rest
       ∙ ap (λ (ps : List Part). take next out ++ parts_in depth blocks s end (listed ps) last rest next) (sym j) ∙ h.same rest
-
-  pub through_next : (out : List ℕ) (next last i : ℕ) (d₀ p : Part) (a m : ℕ) (r : Option (ℕ × ℕ)) (out' : List ℕ) → i < length parts → p ≡ get_or parts i d₀ → ThroughTo out next last i
-      → Parted depth blocks s end p next last out r out' → r ≡ Some (a, m) → ThroughTo out' a m (i + 1)
-  through_next out next last i d₀ p a m r out' l e h d k =
-      let d' : Parted depth blocks s end p next last out (Some (a, m)) out' = subst (λ (r : Option (ℕ × ℕ)). Parted depth blocks s end p next last out r out') k d in
-      rw (add-one i) (record { copied = d'.left; same = λ rest. turn out next last i d₀ p (Some (a, m)) out' l e h d' rest })
-
-  pub through_stopped : (out : List ℕ) (next last i : ℕ) (d₀ p : Part) (r : Option (ℕ × ℕ)) (out' : List ℕ) → i < length parts → p ≡ get_or parts i d₀ → ThroughTo out next last i
-      → Parted depth blocks s end p next last out r out' → r ≡ None → Did s at o parts_step None out' × Within end end None
-  through_stopped out next last i d₀ p r out' l e h d k =
-      let d' : Parted depth blocks s end p next last out None out' = subst (λ (r : Option (ℕ × ℕ)). Parted depth blocks s end p next last out r out') k d in
-      (record { same = λ q rest. turn out next last i d₀ p None out' l e h d' (q n rest); left = d'.left }, tt)
 
   ended : (out : List ℕ) (next last i : ℕ) → length parts ≤ i → ThroughTo out next last i → (rest : ℕ → List ℕ) → take next out ++ only s (eqb next end) nothing rest next ≡ take at o ++ parts_in depth blocks s end (listed parts) 0 rest at
   unfolding strip_parts
@@ -169,15 +157,15 @@ module _ (depth blocks : ℕ) (s : List ℕ) (end : ℕ) (parts : List Part) (at
       let j : drop i parts ≡ [] = drop_of_length-le parts l in
       ap (λ (ps : List Part). take next out ++ parts_in depth blocks s end (listed ps) last rest next) (sym j) ∙ h.same rest
 
-  end_within : (next : ℕ) (b : Bool) → eqb next end ≡ b → Within end end (pass_if b (Some (next, n)))
+  end_within : (next : ℕ) (b : Bool) → eqb next end ≡ b → Within end end (pass_if b (Some (passed next n)))
   end_within next true h = let e = eqb-true next end h in (omega (arith, e), omega (arith, e))
   end_within next false h = tt
 
-  pub through_end : (out : List ℕ) (next last i : ℕ) (r : Option (ℕ × ℕ)) → length parts ≤ i → ThroughTo out next last i → r ≡ pass_if (eqb next end) (Some (next, n)) → Did s at o parts_step r out × Within end end r
+  pub through_end : (out : List ℕ) (next last i : ℕ) (r : Option Passed) → length parts ≤ i → ThroughTo out next last i → r ≡ pass_if (eqb next end) (Some (passed next n)) → Did s at o parts_step r out × Within end end r
   through_end out next last i r l h e =
       let d = checking s out next n (eqb next end) r (λ q rest. only s (eqb next end) (q n) rest) h.copied e (λ q rest. refl) in (
         record { same = λ q rest. d.same q rest ∙ ap (λ (x : List ℕ). take next out ++ x) (only_nothing (eqb next end) (q n) rest) ∙ ended out next last i l h (q n rest); left = d.left },
-        subst (λ (r : Option (ℕ × ℕ)). Within end end r) (sym e) (end_within next (eqb next end) refl),
+        subst (λ (r : Option Passed). Within end end r) (sym e) (end_within next (eqb next end) refl),
       )
     where
       only_nothing : (b : Bool) (p : Strip) (rest : ℕ → List ℕ) → only s b p rest next ≡ only s b nothing (p rest) next

@@ -13,6 +13,7 @@ use Rattle.definitions.specs.Answer.{checked}
 use Rattle.definitions.specs.Read.{front_good, depth_limit}
 use Rattle.definitions.specs.Stage.{over}
 use Rattle.definitions.specs.Strip.{only, nothing, strip_run, strip_parts, strip_expr, strip_stmt, strip, strip_into, stripped, unstripped, strip_to}
+use Rattle.strip.specs.declared.fields.Passed.{Passed}
 use Rattle.strip.specs.Passing.{whole, Copied, Left, Did}
 use Rattle.strip.proofs.Laws.{stays}
 
@@ -26,11 +27,11 @@ closing s o at true h c = append-nil (take at o) ∙ take_all at o (let e = eqb-
 closing s o at false h c = stays s o at c
 
 -- wherever the block ends, the buffer is done
-done : (s o : List ℕ) (r : Option (ℕ × ℕ)) → Left s r o → whole r o (λ n at. only s (eqb at (length s)) nothing (λ a. []) at) ≡ o
-done s o (Some (at, n)) l = closing s o at (eqb at (length s)) refl l
+done : (s o : List ℕ) (r : Option Passed) → Left s r o → whole r o (λ n at. only s (eqb at (length s)) nothing (λ a. []) at) ≡ o
+done s o (Some p) l = closing s o p.at (eqb p.at (length s)) refl l
 done s o None l = refl
 
-pub a_unit : (s o o' : List ℕ) (r : Option (ℕ × ℕ)) → o ≡ s → front_good s ≡ true → Did s 6 o (strip_run s (length s) (strip_stmt depth_limit s)) r o' → o' ≡ strip s
+pub a_unit : (s o o' : List ℕ) (r : Option Passed) → o ≡ s → front_good s ≡ true → Did s 6 o (strip_run s (length s) (strip_stmt depth_limit s)) r o' → o' ≡ strip s
 unfolding strip strip_parts
 a_unit s o o' r e g d =
     sym (done s o' r d.left) ∙ d.same (λ k. strip_parts s (strip_expr depth_limit s) (strip_stmt depth_limit s) (length s) [] 0) (λ at. [])

@@ -50,8 +50,12 @@ abbrev pub node_of : (class : Class) (depth : ℕ) (s : List ℕ) (holder : ℕ)
 node_of Statement = strip_stmt
 node_of Expression = strip_expr
 
--- an item of a run: `depth` for expressions, `blocks` for statements
+-- how many nodes of a class may stand one in another: `depth` for expressions, `blocks` for statements
+abbrev pub depth_of : (class : Class) (depth blocks : ℕ) → ℕ
+depth_of Statement d b = b
+depth_of Expression d b = d
+
+-- an item of a run
 abbrev pub item_of : (item : Item) (depth blocks : ℕ) (s : List ℕ) (holder : ℕ) → Strip
-item_of (Node Statement) d b s = strip_stmt b s
-item_of (Node Expression) d b s = strip_expr d s
+item_of (Node class) d b s = node_of class (depth_of class d b) s
 item_of Arm d b s = λ to. strip_expr d s to and strip_run s to (strip_stmt b s) (λ k. nothing)

@@ -6,38 +6,42 @@ use Rattle.definitions.specs.Strip.{Strip, keep, keep_below, keep_marks, blank_p
 use Rattle.instr.specs.Values.{stored}
 use Rattle.strip.specs.Parts.{part_is}
 use Rattle.strip.specs.declared.Part.{Part}
+use Rattle.strip.specs.declared.fields.Passed.{Passed}
 
 -- 1. Where a pass ends that writes nothing: where it stands then, and the mark or the count that was passed last; or it is stopped for good
 
--- past w bytes, if they fit
-unfoldable pub fitting : (at w end n : ℕ) → Option (ℕ × ℕ)
-fitting at w end n = elim (leb (at + w) end) [ true ↦ Some (at + w, n) | false ↦ None ]
+abbrev pub passed : (at last : ℕ) → Passed
+passed at last = record { at = at; last = last }
 
--- past a length, if what it counts fits too, with the end of that
+-- past w bytes, if they fit
+unfoldable pub fitting : (at w end n : ℕ) → Option Passed
+fitting at w end n = elim (leb (at + w) end) [ true ↦ Some (passed (at + w) n) | false ↦ None ]
+
+-- past a length, with the end of what it counts, if that fits too
 unfoldable pub span_of : (s : List ℕ) (end at : ℕ) → Option (ℕ × ℕ)
 span_of s end at = elim (leb (at + 4) end) [
   | true ↦ elim (leb (at + 4 + number 4 s at) end) [ true ↦ Some (at + 4, at + 4 + number 4 s at) | false ↦ None ]
   | false ↦ None
 ]
 
-abbrev pub pass_if : Bool → Option (ℕ × ℕ) → Option (ℕ × ℕ)
+abbrev pub pass_if : {A : Type 0} → Bool → Option A → Option A
 pass_if b r = elim b [ true ↦ r | false ↦ None ]
 
 -- a pass and then a check of where it ended and of what was passed last, with what is handed on in its place
-unfoldable pub guarded : (good : ℕ → ℕ → Bool) (to : ℕ → ℕ) → Option (ℕ × ℕ) → Option (ℕ × ℕ)
-guarded good to (Some (at, n)) = pass_if (good at n) (Some (at, to n))
+unfoldable pub guarded : (good : ℕ → ℕ → Bool) (to : ℕ → ℕ) → Option Passed → Option Passed
+guarded good to (Some p) = pass_if (good p.at p.last) (Some (passed p.at (to p.last)))
 guarded good to None = None
 
 -- a number below a bound
-abbrev pub below_of : (bound : ℕ) → Option (ℕ × ℕ) → Option (ℕ × ℕ)
+abbrev pub below_of : (bound : ℕ) → Option Passed → Option Passed
 below_of bound = guarded (λ at n. ltb n bound) (λ n. n)
 
 -- n, whatever was passed
-abbrev pub handed : (n : ℕ) → Option (ℕ × ℕ) → Option (ℕ × ℕ)
+abbrev pub handed : (n : ℕ) → Option Passed → Option Passed
 handed n = guarded (λ at k. true) (λ k. n)
 
 -- at the end, with no more items than n
-abbrev pub closed_args : (end n : ℕ) → Option (ℕ × ℕ) → Option (ℕ × ℕ)
+abbrev pub closed_args : (end n : ℕ) → Option Passed → Option Passed
 closed_args end n = guarded (λ at k. eqb at end && leb k n) (λ k. n)
 
 -- a number in the buffer, if it fits
@@ -47,8 +51,8 @@ put_if at w end v o = elim (leb (at + w) end) [ true ↦ stored at w v o | false
 -- 2. The buffer
 
 -- what it will be, if k is what follows
-abbrev pub whole : Option (ℕ × ℕ) → (o : List ℕ) → (k : ℕ → ℕ → List ℕ) → List ℕ
-whole (Some (at, n)) o k = take at o ++ k n at
+abbrev pub whole : Option Passed → (o : List ℕ) → (k : ℕ → ℕ → List ℕ) → List ℕ
+whole (Some p) o k = take p.at o ++ k p.last p.at
 whole None o k = o
 
 -- it is as long as the unit s, and from `at` on it has the unit's bytes still
@@ -57,22 +61,22 @@ pub record Copied (s : List ℕ) (at : ℕ) (o : List ℕ) : Type 0 where
   pub same : drop at o ≡ drop at s
 
 -- after a pass
-abbrev pub Left : (s : List ℕ) → Option (ℕ × ℕ) → (o : List ℕ) → Type 0
-Left s (Some (at, n)) o = Copied s at o
+abbrev pub Left : (s : List ℕ) → Option Passed → (o : List ℕ) → Type 0
+Left s (Some p) o = Copied s p.at o
 Left s None o = length o ≡ length s
 
 -- a pass from `at` on did what the step says, for all that may follow
-pub record Did (s : List ℕ) (at : ℕ) (o : List ℕ) (step : (ℕ → Strip) → Strip) (r : Option (ℕ × ℕ)) (o' : List ℕ) : Type 0 where
+pub record Did (s : List ℕ) (at : ℕ) (o : List ℕ) (step : (ℕ → Strip) → Strip) (r : Option Passed) (o' : List ℕ) : Type 0 where
   pub same : (next : ℕ → Strip) (rest : ℕ → List ℕ) → whole r o' (λ n. next n rest) ≡ take at o ++ step next rest at
   pub left : Left s r o'
 
 -- the same of a pass that writes nothing
-abbrev pub KeptBy : (s : List ℕ) (at : ℕ) (step : (ℕ → Strip) → Strip) → Option (ℕ × ℕ) → Type 0
+abbrev pub KeptBy : (s : List ℕ) (at : ℕ) (step : (ℕ → Strip) → Strip) → Option Passed → Type 0
 KeptBy s at step r = (o : List ℕ) → Copied s at o → Did s at o step r o
 
 -- where a pass ends, if it goes on
-abbrev pub Within : (low high : ℕ) → Option (ℕ × ℕ) → Type 0
-Within low high (Some (at, n)) = (low ≤ at) × (at ≤ high)
+abbrev pub Within : (low high : ℕ) → Option Passed → Type 0
+Within low high (Some p) = (low ≤ p.at) × (p.at ≤ high)
 Within low high None = Unit
 
 -- the parts of a node, with `depth` for the expressions in it and `blocks` for the statements
@@ -80,13 +84,9 @@ abbrev pub parts_in : (depth blocks : ℕ) (s : List ℕ) (end : ℕ) → List d
 parts_in depth blocks s end = strip_parts s (strip_expr depth s) (strip_stmt blocks s) end
 
 -- a pass over a part, for all parts that may follow
-pub record Parted (depth blocks : ℕ) (s : List ℕ) (end : ℕ) (part : Part) (at n : ℕ) (o : List ℕ) (r : Option (ℕ × ℕ)) (o' : List ℕ) : Type 0 where
+pub record Parted (depth blocks : ℕ) (s : List ℕ) (end : ℕ) (part : Part) (at n : ℕ) (o : List ℕ) (r : Option Passed) (o' : List ℕ) : Type 0 where
   pub same : (ps : List definition.Part) (rest : ℕ → List ℕ) → whole r o' (λ n. parts_in depth blocks s end ps n rest) ≡ take at o ++ parts_in depth blocks s end (part_is part ++ ps) n rest at
   pub left : Left s r o'
-
--- what a pass asks of the buffer, and of the end of what it passes
-abbrev pub Ready : (s : List ℕ) (at end : ℕ) (o : List ℕ) → Type 0
-Ready s at end o = (end ≤ length s) × Copied s at o
 
 -- 3. Steps
 

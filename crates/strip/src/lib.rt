@@ -42,6 +42,7 @@ fn strip_whole(unit: &[u8], out: &mut [u8])
 }
 
 // The unit without what may differ, and how many bytes that is; where the buffer is too short, a refusal, which leaves it as it was.
+#[tactic(auto, using(crate::proofs::UnitLaws::answer_20, crate::proofs::UnitLaws::answer), unfolding(crate::specs::Values::stripping))]
 pub fn strip(unit: &[u8], out: &mut [u8]) -> Result<usize, Refusal>
     ensures { stripping result out.new ≡ strip_to (strip_into unit.now (length out.old)) out.old }
 {
