@@ -41,13 +41,13 @@ fn line(rt: &impl Print, words: &[u8]) -> io::Result<()> {
     Ok(())
 }
 
+fn is_newline(b: &u8) -> bool {
+    *b == b'\n'
+}
+
 fn lines(rt: &impl Print, words: &[u8]) -> io::Result<()> {
-    let mut at = 0;
-    while at < words.len() {
-        let rest = &words[at..];
-        let end = text::find(rest, b'\n');
-        line(rt, &rest[..end])?;
-        at = at + end + 1;
+    for words in words.split(is_newline) {
+        line(rt, words)?;
     }
     Ok(())
 }

@@ -2,4 +2,5 @@
 #![tactic(auto)]
 
 pub mod made;
+pub mod page;
 pub mod text;

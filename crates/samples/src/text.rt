@@ -4,7 +4,7 @@ ghost use Rattle.std.specs.Prelude.{◌≤◌, ◌<◌, length, IfOk, IfSome};
 use std::io;
 use std::io::Read;
 
-// Reads until the buffer is full or the input ends: how many bytes it has then.
+// Reads until the buffer is full or the input ends: how many bytes it has then. No method of the library does so into a slice.
 pub fn read_full(input: &mut impl Read, out: &mut [u8]) -> io::Result<usize>
     ensures { IfOk result (λ n. n ≤ length out.new) }
 {
@@ -68,14 +68,4 @@ pub fn rest(text: &[u8], n: usize) -> &[u8] {
 // Whether the text begins with these words.
 pub fn begins(text: &[u8], words: &[u8]) -> bool {
     text.starts_with(words)
-}
-
-// The words from position n of `out` on, as many bytes as fit; and the next position.
-pub fn put(words: &[u8], n: usize, out: &mut [u8]) -> usize {
-    let Some(part) = out.get_mut(n..) else {
-        return n;
-    };
-    let count = words.len().min(part.len());
-    part[..count].copy_from_slice(&words[..count]);
-    n + count
 }

@@ -1,32 +1,16 @@
 // Reads a unit from standard input and prints its stage, document 01's printed form.
 #![tactic(auto)]
 
-ghost use Rattle.std.specs.Prelude.{◌≤◌, length, IfOk};
-
 use instr::refusals::Reason;
+use samples::text;
 use std::io;
-use std::io::{Read, Write};
+use std::io::Write;
 
 // One byte more than the longest unit, so that a longer input shows.
 type Unit = [u8; 2049];
 
 // The text of a unit of 2,048 bytes: at most 2,048 lines of at most 56 bytes, and the first.
 type Page = [u8; 131072];
-
-// The whole input, as far as it fits: how many bytes it has.
-fn read_input(from: &mut impl Read, input: &mut [u8]) -> io::Result<usize>
-    ensures { IfOk result (λ n. n ≤ length input.new) }
-{
-    let mut n = 0;
-    while n < input.len() {
-        let got = from.read(&mut input[n..])?;
-        if got == 0 {
-            break;
-        }
-        n += got;
-    }
-    Ok(n)
-}
 
 fn message(rt: &impl Eprint, text: &str) -> io::Result<()> {
     eprintln!(rt; "stage: {text}")
@@ -49,7 +33,7 @@ fn print_stage(rt: &(impl Print + Eprint), input: &[u8], page: &mut [u8]) -> io:
 }
 
 fn run(rt: &(impl Input + Print + Eprint), input: &mut [u8], page: &mut [u8]) -> io::Result<()> {
-    match read_input(&mut rt.reader(), input) {
+    match text::read_full(&mut rt.reader(), input) {
         Ok(n) => print_stage(rt, &input[..n], page),
         Err(_) => message(rt, "the input could not be read"),
     }

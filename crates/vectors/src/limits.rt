@@ -1,22 +1,57 @@
 // Units at the limits, lowered and resolved: what lowering counted, and the first line of the printed stage.
-use super::{answers, show};
-use instr::refusals::Refusal;
+use super::answers::Lent;
+use super::show;
 use samples::{made, text};
 use std::io;
 use std::io::Write;
-use steps::counters::Counters;
 
 type Marks = [u32; 65536];
 
 // The resolved listing of 32,761 Nops in a loop, and more.
 type Code = [u8; 750000];
 
-fn counted(rt: &impl Print, lowered: Result<Counters, Refusal>) -> io::Result<()> {
-    if let Ok(c) = lowered {
-        show::labelled(rt, c)?;
-        print!(rt; "; ")?;
+// A unit of `made`, with what it is made of.
+#[derive(Clone, Copy)]
+enum Made {
+    Construct(u16),
+    Flagged(u8),
+    WhileNops(u32),
+    Branches(u32),
+    Whiles(u16),
+    Blocks(u16),
+    Casts(u16),
+}
+
+// The Break in Blocks alone is refused by the walk, which comes after the reading.
+const CASES: [(&str, Made); 13] = [
+    ("Construct with 255 arguments", Made::Construct(255)),
+    ("Construct with 256 arguments", Made::Construct(256)),
+    ("flagged argument at index 15", Made::Flagged(15)),
+    ("flagged argument at index 16", Made::Flagged(16)),
+    ("While on false, 32760 Nops", Made::WhileNops(32760)),
+    ("While on false, 32761 Nops", Made::WhileNops(32761)),
+    ("65534 branches", Made::Branches(65534)),
+    ("65535 branches", Made::Branches(65535)),
+    ("depth 200, a Break in Whiles", Made::Whiles(199)),
+    ("depth 200, a Break in Blocks", Made::Blocks(199)),
+    ("depth 201, a Break in Blocks", Made::Blocks(200)),
+    ("depth 200, a Nop in DynCasts", Made::Casts(198)),
+    ("depth 201, a Nop in DynCasts", Made::Casts(199)),
+];
+
+impl Made {
+    // Into a page: where the unit ends.
+    fn make(self, page: &mut [u8]) -> usize {
+        match self {
+            Made::Construct(args) => made::construct(page, args),
+            Made::Flagged(index) => made::flagged(page, index),
+            Made::WhileNops(count) => made::while_nops(page, count),
+            Made::Branches(count) => made::branches(page, count),
+            Made::Whiles(depth) => made::whiles(page, depth),
+            Made::Blocks(depth) => made::blocks(page, depth),
+            Made::Casts(depth) => made::casts(page, depth),
+        }
     }
-    Ok(())
 }
 
 // The page's first n bytes as a unit. Its text goes to the page: by then the unit is not needed.
@@ -24,90 +59,37 @@ fn first_line(
     rt: &impl Print,
     n: usize,
     page: &mut [u8],
-    out: &mut [u8],
-    marks: &mut Marks,
+    lent: Lent,
     code: &mut Code,
 ) -> io::Result<()> {
-    let lowered = assemble::lower(text::first(page, n), out, marks);
-    counted(rt, lowered)?;
-    let length = answers::stage(lowered, out, marks, code, page);
+    let lowered = lent.lower(text::first(page, n));
+    if let Ok(c) = lowered.answer {
+        show::labelled(rt, c)?;
+        print!(rt; "; ")?;
+    }
+    let length = lowered.stage(code, page).unwrap_or(0);
     let words = text::first(page, length);
     let end = text::find(words, b'\n');
     io::writer(rt).write_all(text::first(words, end))?;
     println!(rt)
 }
 
-fn try_unit(
-    rt: &impl Print,
-    name: &str,
-    n: usize,
-    page: &mut [u8],
-    out: &mut [u8],
-) -> io::Result<()> {
+// The arrays stand here and not in `first_line`: the check computes with the length of a local, and of this one it runs out of stack.
+fn try_unit(rt: &impl Print, made: Made, page: &mut [u8], listing: &mut [u8]) -> io::Result<()> {
     let mut marks: Marks = [0; 65536];
     let mut code: Code = [0; 750000];
-    print!(rt; "{name}: ")?;
-    first_line(rt, n, page, out, &mut marks, &mut code)
+    let lent = Lent {
+        listing,
+        marks: &mut marks,
+    };
+    let n = made.make(page);
+    first_line(rt, n, page, lent, &mut code)
 }
 
-fn constructs(rt: &impl Print, page: &mut [u8], out: &mut [u8]) -> io::Result<()> {
-    let n = made::construct(page, 255);
-    try_unit(rt, "Construct with 255 arguments", n, page, out)?;
-    let n = made::construct(page, 256);
-    try_unit(rt, "Construct with 256 arguments", n, page, out)
-}
-
-fn flags(rt: &impl Print, page: &mut [u8], out: &mut [u8]) -> io::Result<()> {
-    let n = made::flagged(page, 15);
-    try_unit(rt, "flagged argument at index 15", n, page, out)?;
-    let n = made::flagged(page, 16);
-    try_unit(rt, "flagged argument at index 16", n, page, out)
-}
-
-fn distances(rt: &impl Print, page: &mut [u8], out: &mut [u8]) -> io::Result<()> {
-    let n = made::while_nops(page, 32760);
-    try_unit(rt, "While on false, 32760 Nops", n, page, out)?;
-    let n = made::while_nops(page, 32761);
-    try_unit(rt, "While on false, 32761 Nops", n, page, out)
-}
-
-fn labels(rt: &impl Print, page: &mut [u8], out: &mut [u8]) -> io::Result<()> {
-    let n = made::branches(page, 65534);
-    try_unit(rt, "65534 branches", n, page, out)?;
-    let n = made::branches(page, 65535);
-    try_unit(rt, "65535 branches", n, page, out)
-}
-
-fn whiles(rt: &impl Print, page: &mut [u8], out: &mut [u8]) -> io::Result<()> {
-    let n = made::whiles(page, 199);
-    try_unit(rt, "depth 200, a Break in Whiles", n, page, out)
-}
-
-// The Break in Blocks alone is refused by the walk, which comes after the reading.
-fn blocks(rt: &impl Print, page: &mut [u8], out: &mut [u8]) -> io::Result<()> {
-    let n = made::blocks(page, 199);
-    try_unit(rt, "depth 200, a Break in Blocks", n, page, out)?;
-    let n = made::blocks(page, 200);
-    try_unit(rt, "depth 201, a Break in Blocks", n, page, out)
-}
-
-fn expressions(rt: &impl Print, page: &mut [u8], out: &mut [u8]) -> io::Result<()> {
-    let n = made::casts(page, 198);
-    try_unit(rt, "depth 200, a Nop in DynCasts", n, page, out)?;
-    let n = made::casts(page, 199);
-    try_unit(rt, "depth 201, a Nop in DynCasts", n, page, out)
-}
-
-fn depths(rt: &impl Print, page: &mut [u8], out: &mut [u8]) -> io::Result<()> {
-    whiles(rt, page, out)?;
-    blocks(rt, page, out)?;
-    expressions(rt, page, out)
-}
-
-pub fn all(rt: &impl Print, page: &mut [u8], out: &mut [u8]) -> io::Result<()> {
-    constructs(rt, page, out)?;
-    flags(rt, page, out)?;
-    distances(rt, page, out)?;
-    labels(rt, page, out)?;
-    depths(rt, page, out)
+pub fn all(rt: &impl Print, page: &mut [u8], listing: &mut [u8]) -> io::Result<()> {
+    for (name, made) in CASES {
+        print!(rt; "{name}: ")?;
+        try_unit(rt, made, page, listing)?;
+    }
+    Ok(())
 }

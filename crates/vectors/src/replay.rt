@@ -1,6 +1,6 @@
 // Replays a file of units and answers: a line `unit NAME HEX`, then for each answer a line `stage` or `labelled` and its lines, then
 // an empty line.
-use super::answers;
+use super::answers::Lent;
 use samples::text;
 use std::fs::File;
 use std::io;
@@ -54,56 +54,46 @@ fn ends(words: &[u8]) -> bool {
 
 // Whether the file has this answer, byte for byte, and then its end. An answer has text.
 fn same(words: &[u8], answer: &[u8]) -> bool {
-    !answer.is_empty() && text::begins(words, answer) && ends(text::rest(words, answer.len()))
+    !answer.is_empty() && words.strip_prefix(answer).is_some_and(|rest| ends(rest))
 }
 
-fn stage_with(
-    unit: &[u8],
-    words: &[u8],
-    listing: &mut Listing,
-    marks: &mut Marks,
-    code: &mut Listing,
-    out: &mut Words,
-) -> bool {
-    let lowered = assemble::lower(unit, listing, marks);
-    let n = answers::stage(lowered, listing, marks, code, out);
-    same(words, text::first(out, n))
-}
-
+// This and `labelled_agrees` each hold their buffers: a closure for the one call in which they differ would have to lend them.
 fn stage_agrees(unit: &[u8], words: &[u8]) -> bool {
     let mut listing: Listing = [0; 45061];
     let mut marks: Marks = [0; 2048];
     let mut code: Listing = [0; 45061];
     let mut out: Words = [0; 16384];
-    stage_with(unit, words, &mut listing, &mut marks, &mut code, &mut out)
-}
-
-fn labelled_with(
-    unit: &[u8],
-    words: &[u8],
-    listing: &mut Listing,
-    marks: &mut Marks,
-    out: &mut Words,
-) -> bool {
-    let lowered = assemble::lower(unit, listing, marks);
-    let n = answers::labelled(lowered, listing, marks, out);
-    same(words, text::first(out, n))
+    let lent = Lent {
+        listing: &mut listing,
+        marks: &mut marks,
+    };
+    match lent.lower(unit).stage(&mut code, &mut out) {
+        Some(n) => same(words, text::first(&out, n)),
+        None => false,
+    }
 }
 
 fn labelled_agrees(unit: &[u8], words: &[u8]) -> bool {
     let mut listing: Listing = [0; 45061];
     let mut marks: Marks = [0; 2048];
     let mut out: Words = [0; 16384];
-    labelled_with(unit, words, &mut listing, &mut marks, &mut out)
+    let lent = Lent {
+        listing: &mut listing,
+        marks: &mut marks,
+    };
+    match lent.lower(unit).labelled(&mut out) {
+        Some(n) => same(words, text::first(&out, n)),
+        None => false,
+    }
 }
 
 // The answer that begins at this line, if one does.
 fn answer(unit: &[u8], words: &[u8]) -> Tally {
-    if text::begins(words, b"stage\n") {
-        return Tally::compared(stage_agrees(unit, text::rest(words, 6)));
+    if let Some(rest) = words.strip_prefix(b"stage\n") {
+        return Tally::compared(stage_agrees(unit, rest));
     }
-    if text::begins(words, b"labelled\n") {
-        return Tally::compared(labelled_agrees(unit, text::rest(words, 9)));
+    if let Some(rest) = words.strip_prefix(b"labelled\n") {
+        return Tally::compared(labelled_agrees(unit, rest));
     }
     Tally::default()
 }
@@ -156,25 +146,23 @@ fn unit(rt: &impl Print, words: &[u8], naming: bool) -> io::Result<Tally> {
     let line = text::first(words, end);
     let tally = decoded(text::rest(line, space + 1), text::rest(words, end + 1));
     verdict(rt, text::first(words, space), tally, naming)?;
-    Ok(Tally {
-        units: 1,
-        agree: tally.agree,
-        differ: tally.differ,
-    })
+    Ok(Tally { units: 1, ..tally })
 }
 
 // The unit that begins at this line, if one does.
 fn unit_here(rt: &impl Print, words: &[u8], naming: bool) -> io::Result<Tally> {
-    if text::begins(words, b"unit ") {
-        return unit(rt, text::rest(words, 5), naming);
+    if let Some(rest) = words.strip_prefix(b"unit ") {
+        return unit(rt, rest, naming);
     }
     Ok(Tally::default())
 }
 
 fn summary(rt: &impl Print, name: &str, tally: Tally) -> io::Result<()> {
-    let units = tally.units;
-    let agree = tally.agree;
-    let differ = tally.differ;
+    let Tally {
+        units,
+        agree,
+        differ,
+    } = tally;
     println!(rt; "{name}: units {units}, answers that agree {agree}, that differ {differ}")
 }
 
@@ -192,10 +180,10 @@ fn all_units(rt: &impl Print, words: &[u8], naming: bool) -> io::Result<Tally> {
 
 // How many bytes of a file come into the page. A file that is missing has none.
 fn read_file(rt: &impl Files, name: &str, page: &mut [u8]) -> io::Result<usize> {
-    match File::open(rt, name) {
-        Ok(mut file) => text::read_full(&mut file, page),
-        Err(_) => Ok(0),
-    }
+    let Ok(mut file) = File::open(rt, name) else {
+        return Ok(0);
+    };
+    text::read_full(&mut file, page)
 }
 
 // A file that is missing has no units.

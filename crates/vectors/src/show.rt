@@ -3,6 +3,10 @@ use std::io;
 use steps::counters::Counters;
 
 pub fn labelled(rt: &impl Print, c: Counters) -> io::Result<()> {
-    let (count, offset, labels) = (c.count, c.offset, c.labels);
+    let Counters {
+        count,
+        offset,
+        labels,
+    } = c;
     print!(rt; "labelled {count} {offset}, labels {labels}")
 }

@@ -1,0 +1,2 @@
+-- What writing on a page does to its buffer.
+pub mod Written
