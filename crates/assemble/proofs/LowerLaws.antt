@@ -1,4 +1,4 @@
--- The whole of `lower`: from what the reader, the dry walk and the real one ensure. Assumes nothing.
+-- The whole of `lower`: from what the reader and the walk ensure, lent empty buffers and whole ones. Assumes nothing.
 use Prim.Native.Nat.{ℕ, min, ◌-◌, ◌/◌, ◌≤◌, ◌<◌}
 use mathlib.Core.Path.{◌≡◌, refl, sym, ap, ◌∙◌}
 use mathlib.Core.Bool.{Bool, true, false}

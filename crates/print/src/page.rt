@@ -22,7 +22,7 @@ fn digit(d: u64) -> u8
     b"0123456789ABCDEF"[d as usize]
 }
 
-// How many decimal digits a number has.
+// How many decimal digits a number has. A `while`: no iterator gives the quotients.
 #[tactic(auto, using(crate::proofs::DigitLaws::one_place, crate::proofs::DigitLaws::more_places, crate::proofs::DigitLaws::places_most))]
 fn places(n: u64) -> usize
     ensures { (result ≡ Text.places n) × (result ≤ 20) }

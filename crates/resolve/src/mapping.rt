@@ -91,7 +91,8 @@ fn map_fields<M: Mapping>(
 }
 
 // Every field of every record. Nothing is written, so that a refusal leaves the buffer as it was. A record whose tag carries nothing is
-// passed by its tag alone.
+// passed by its tag alone. `write_fields` goes the same way with another step: one loop over a closure would say of the buffer, through
+// the closure's own clauses, no less than the two say, and less plainly.
 #[tactic(auto, using(crate::proofs::Passes::few_records, crate::proofs::Passes::whole_listing))]
 fn check_fields<M: Mapping>(mapping: &M, listing: &[u8], count: usize) -> Result<(), Refusal>
     requires { answer (Ok count) ≡ counted (read_listing listing.now) }
