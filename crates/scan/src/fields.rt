@@ -41,8 +41,8 @@ impl Left {
 }
 
 // What holds nodes, runs and fields: a node, a run or the whole unit. What it holds must fit before its end. The methods borrow it: with
-// a copy for every call the scan of expressions took half as long again. That a place lies before the end
-// is said of it by each method: a struct of a holder and a place would be built for every field, with the proof there.
+// a copy for every call the stage took up to a third longer on small units. That a place lies before the end is said of it by each method:
+// a struct of a holder and a place would be built for every field, with the proof there.
 #[derive(Clone, Copy)]
 pub(crate) struct Holder<'a> {
     pub(crate) unit: &'a [u8],
