@@ -16,6 +16,7 @@ const LENGTH_AT: usize = 1;
 
 const LENGTH_WIDTH: usize = 4;
 
+// Record n begins at FRONT + Record::LENGTH * n, written out where it is used: a function of n would have to ask that this fits.
 pub const FRONT: usize = 5;
 
 pub const MOST_RECORDS: usize = 1048576;

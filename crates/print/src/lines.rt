@@ -13,7 +13,7 @@ use crate::page::Page;
 use instr::records::Record;
 use instr::{listings, records, tables};
 
-// A listing's bytes, and how many records it has.
+// A listing's bytes, and how many records it has. Instr and resolve hand a count on once and take no struct for it.
 #[derive(Clone, Copy)]
 pub(crate) struct Listing<'a> {
     pub(crate) bytes: &'a [u8],

@@ -10,7 +10,8 @@ use instr::refusals::{Reason, Refusal};
 // The mark of a label that lands nowhere.
 const UNMARKED: u32 = u32::MAX;
 
-// The distance from the start of the carrying instruction to a mark, where it fits 16 bits. Which of the two is less is asked first, so
+// The distance from the start of the carrying instruction to a mark, where it fits 16 bits. The bounds are written out, and a must-fail edit
+// moves each by one: a conversion to 16 bits would hide them. Which of the two is less is asked first, so
 // that no difference wraps.
 #[tactic(auto, using(crate::proofs::LabelLaws::ahead_far, crate::proofs::LabelLaws::ahead_near, crate::proofs::LabelLaws::back_far, crate::proofs::LabelLaws::back_near))]
 fn distance(mark: usize, start: usize) -> Option<u16>

@@ -61,7 +61,7 @@ impl Page<'_> {
 
 // A block of so many Returns, of six bytes, and so many Breaks, of five.
 pub fn flat(out: &mut [u8], returns: u8, breaks: u32) -> usize {
-    let first = returns as usize;
+    let first = usize::from(returns);
     let second = breaks as usize;
     let mut page = front(out, 6 * first + 5 * second);
     for _ in 0..first {
@@ -74,7 +74,7 @@ pub fn flat(out: &mut [u8], returns: u8, breaks: u32) -> usize {
 
 // So many Blocks, one in another, and a Break in the last.
 pub fn blocks(out: &mut [u8], count: u16) -> usize {
-    let depth = count as usize;
+    let depth = usize::from(count);
     let mut page = front(out, 9 * depth + 5);
     for inner in (0..depth).rev() {
         page.head(9 * inner + 10, StmtKind::Block as u8);
@@ -86,7 +86,7 @@ pub fn blocks(out: &mut [u8], count: u16) -> usize {
 
 // An expression statement: so many DynCasts, one in another, and a Nop in the last.
 pub fn casts(out: &mut [u8], count: u16) -> usize {
-    let depth = count as usize;
+    let depth = usize::from(count);
     let mut page = front(out, 10 * depth + 10);
     page.head(10 * depth + 6, StmtKind::Expr as u8);
     for inner in (0..depth).rev() {
@@ -101,7 +101,7 @@ pub fn casts(out: &mut [u8], count: u16) -> usize {
 fn call_front(out: &mut [u8], params: u8, length: usize) -> Page<'_>
     requires { length ≤ 2 ^ 32 }
 {
-    let marked = params as usize;
+    let marked = usize::from(params);
     let mut page = front(out, marked + length + 26);
     page.head(marked + length + 22, StmtKind::Expr as u8);
     page.head(marked + length + 17, ExprKind::FreeCall as u8);
@@ -114,7 +114,7 @@ fn call_front(out: &mut [u8], params: u8, length: usize) -> Page<'_>
 
 // Such a call with so many Nops as arguments.
 pub fn call(out: &mut [u8], params: u8, args: u16) -> usize {
-    let given = args as usize;
+    let given = usize::from(args);
     let mut page = call_front(out, params, 5 * given);
     page.bare(given, ExprKind::Nop as u8);
     page.at()
@@ -136,7 +136,7 @@ pub fn branches(out: &mut [u8], count: u32) -> usize {
 
 // So many Whiles, one in another, each with a Nop for its condition, and a Break in the last.
 pub fn whiles(out: &mut [u8], count: u16) -> usize {
-    let depth = count as usize;
+    let depth = usize::from(count);
     let mut page = front(out, 14 * depth + 5);
     for inner in (0..depth).rev() {
         page.head(14 * inner + 15, StmtKind::While as u8);
@@ -165,7 +165,7 @@ pub fn while_nops(out: &mut [u8], count: u32) -> usize {
 
 // An expression statement: a Construct with so many Nops as arguments.
 pub fn construct(out: &mut [u8], count: u16) -> usize {
-    let given = count as usize;
+    let given = usize::from(count);
     let mut page = front(out, 5 * given + 18);
     page.head(5 * given + 14, StmtKind::Expr as u8);
     page.head(5 * given + 9, ExprKind::Construct as u8);
@@ -177,7 +177,7 @@ pub fn construct(out: &mut [u8], count: u16) -> usize {
 
 // A call whose arguments are so many Nops and then one that is flagged, with as many parameters.
 pub fn flagged(out: &mut [u8], index: u8) -> usize {
-    let before = index as usize;
+    let before = usize::from(index);
     let mut page = call_front(out, byte(before + 1), 5 * before + 22);
     page.bare(before, ExprKind::Nop as u8);
     page.as_ref();

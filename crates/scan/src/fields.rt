@@ -77,7 +77,7 @@ impl Holder<'_> {
         None
     }
 
-    // Where the node or run at `at` ends.
+    // Where the node or run at `at` ends: the end and no holder, since a call compares it. A holder of it is a literal of two fields.
     pub(crate) fn span(&self, at: usize) -> Option<usize>
         requires { at ≤ self.now.end }
         ensures { IfSome result (λ r. (span self.now.unit.now self.now.end at ≡ ok r (at + 4)) × (at + 4 ≤ r) × (r ≤ self.now.end)) }

@@ -199,7 +199,7 @@ impl Holder<'_> {
         Ok(())
     }
 
-    // A branch of the node at `site`.
+    // A branch of the node at `site`. It finds its places again, as a case does: handed on, they would stand in its clauses.
     #[cycle(stmts)]
     fn arm(
         &self,
