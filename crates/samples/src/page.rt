@@ -1,6 +1,6 @@
 // Bytes, one after another, in a lent buffer.
 ghost use Rattle.std.specs.Prelude.{◌≡◌, [], ◌∷◌};
-ghost use Rattle.samples.specs.Written.{Written};
+ghost use Rattle.samples.specs.Written.{Written, place_of, bytes_of, buffer_of};
 
 // The buffer, and the place where the next byte goes. Bytes that do not fit are left out.
 // In this it differs from print's Page, which counts them, since there an empty buffer gives a text's length: this place stops at the end.
@@ -13,14 +13,14 @@ pub struct Page<'a> {
 impl Page<'_> {
     // From a place on.
     pub fn new(out: &mut [u8], at: usize) -> Page<'_>
-        ensures start { (result.at ≡ at) × (result.out.now ≡ out.old) }
-        ensures buffer { result.out.ghost_name ≡ out.entry.ghost_name }
+        ensures start { (place_of result ≡ at) × (bytes_of result ≡ out.old) }
+        ensures buffer { buffer_of result ≡ out.entry.ghost_name }
     {
         Page { out, at }
     }
 
     pub fn at(&self) -> usize
-        ensures { result ≡ self.now.at }
+        ensures { result ≡ place_of self.now }
     {
         self.at
     }
