@@ -1,5 +1,5 @@
 -- The flags of a call's arguments. Assumes nothing.
-use Rattle.std.proofs.Common.{◌≡◌, ℕ, zero, suc, ◌+◌, ◌*◌, ◌%◌, ◌^◌, ◌<◌, ◌≤◌, Bool, true, false, cond, not, ◌||◌, ltb, List, [], ◌∷◌, get_or, sym, refl, ap, ◌∙◌, arith}
+use Rattle.std.proofs.Common.{◌≡◌, ℕ, zero, suc, ◌+◌, ◌*◌, ◌%◌, ◌^◌, ◌<◌, ◌≤◌, Bool, true, false, cond, not, ◌||◌, eqb, ne_eqb, ltb, List, [], ◌∷◌, get_or, sym, refl, ap, ◌∙◌, arith}
 use Rattle.std.specs.Prelude as std
 use Rattle.definitions.specs.Answer.{ok}
 use Rattle.definitions.specs.Bytes.{number}
@@ -132,18 +132,12 @@ invoke_cut : (at t l n f v : ℕ) {g : ℕ} {w r : Walk} {o o' : List ℕ} → g
 unfolding record_bytes
 invoke_cut at t l n f v e d = emit_alike (rw (e, bytes_cut f)) refl d
 
-static_code : (site b exit line flags function name : ℕ) {w r : Walk} {o o' : List ℕ} → (b ≡ 0 → ⊥) → EmittedFrom (invoke site InvokeStatic exit line flags function) w o r o' → EmittedFrom (emit_invoke site b exit line flags function name) w o r o'
-unfolding emit_invoke
-static_code site zero exit line flags function name h d = absurd (h refl)
-static_code site (suc b) exit line flags function name h d = d
-
 module _ (s : List ℕ) (at site exit line flags : ℕ) {g : ℕ} {w r : Walk} {o o' : List ℕ} (e : g ≡ flags % 2 ^ 16) (n : line ≡ number 2 s (at + 8)) where
-  pub invoke_virtual_law : (name : ℕ) → get_or s (at + 10) 0 ≡ 0 → name ≡ number 4 s (at + 4) → EmittedFrom (invoke site InvokeVirtual exit line g name) w o r o' →
+  pub invoke_law : (tag value : ℕ) → tag ≡ cond (eqb (get_or s (at + 10) 0) 0) InvokeVirtual InvokeStatic → value ≡ cond (eqb (get_or s (at + 10) 0) 0) (number 4 s (at + 4)) (number 4 s at) → EmittedFrom (invoke site tag exit line g value) w o r o' →
       EmittedFrom (emit_invoke site (callee_at s at).flags exit (callee_at s at).line flags (callee_at s at).function (callee_at s at).name) w o r o'
   unfolding emit_invoke callee_at
-  invoke_virtual_law name z h d = rw (z, ← h, ← n) (invoke_cut site InvokeVirtual exit line flags name e d)
-
-  pub invoke_static_law : (function : ℕ) → (get_or s (at + 10) 0 ≡ 0 → ⊥) → function ≡ number 4 s at → EmittedFrom (invoke site InvokeStatic exit line g function) w o r o' →
-      EmittedFrom (emit_invoke site (callee_at s at).flags exit (callee_at s at).line flags (callee_at s at).function (callee_at s at).name) w o r o'
-  unfolding callee_at
-  invoke_static_law function z h d = rw (← h, ← n) (static_code site _ exit line flags function _ z (invoke_cut site InvokeStatic exit line flags function e d))
+  invoke_law tag value f h d = rw (← n) (go (get_or s (at + 10) 0) f h)
+    where
+      go : (b : ℕ) → tag ≡ cond (eqb b 0) InvokeVirtual InvokeStatic → value ≡ cond (eqb b 0) (number 4 s (at + 4)) (number 4 s at) → EmittedFrom (emit_invoke site b exit line flags (number 4 s at) (number 4 s (at + 4))) w o r o'
+      go zero f h = invoke_cut site InvokeVirtual exit line flags (number 4 s (at + 4)) e (rw (f, h) at d)
+      go (suc b) f h = let z : eqb (suc b) 0 ≡ false = ne_eqb (suc b) 0 (λ y. omega (arith, y)) in invoke_cut site InvokeStatic exit line flags (number 4 s at) e (rw (rw z at f, rw z at h) at d)

@@ -1,5 +1,6 @@
 // The parts of a call that hold no node.
-ghost use Rattle.std.specs.Prelude.{◌≡◌, ◌%◌, ◌^◌, ◌≤◌, cond, not, ◌||◌, length, nat_lt};
+ghost use Rattle.std.specs.Prelude.{◌≡◌, ◌+◌, ◌%◌, ◌^◌, ◌≤◌, ◌==◌, cond, not, ◌||◌, length, nat_lt, slice_index};
+ghost use Rattle.definitions.specs.Bytes.{number};
 ghost use Rattle.definitions.specs.Tree.{exprs_of};
 ghost use Rattle.definitions.specs.Lower.{weak_to_ref, emit_invoke, require_flags, flags_of};
 ghost use Rattle.steps.specs.Walked.{Accepted, list_of, exprs_from, callee_at, args_at, Called, Emitted, Left, Nops};
@@ -7,6 +8,7 @@ ghost use Rattle.steps.specs.Walked.{Accepted, list_of, exprs_from, callee_at, a
 use crate::counters::Counters;
 use crate::places::{Nodes, end_of};
 use crate::refusals::require;
+use crate::tags::invoke_tag;
 use instr::numbers::{u16_at, u32_at};
 use instr::refusals::{Reason, Refusal};
 use instr::tag::Tag;
@@ -24,6 +26,18 @@ fn bit_if(flagged: bool, bit: u16) -> u16
     ensures { result ≡ cond «flagged» bit 0 }
 {
     if flagged { bit } else { 0 }
+}
+
+// The name where no bit of the flag byte is set, else the function.
+fn invoke_value(s: &[u8], at: usize) -> usize
+    requires { at + 11 ≤ length s.now }
+    ensures { result ≡ cond (slice_index s.now (at + 10) == 0) (number 4 s.now (at + 4)) (number 4 s.now at) }
+{
+    if s[at + 10] == 0 {
+        u32_at(s, at + 4)
+    } else {
+        u32_at(s, at)
+    }
 }
 
 impl Nodes<'_> {
@@ -69,13 +83,8 @@ impl Nodes<'_> {
         let s = self.unit;
         let flags = self.flags_of(at + 16 + usize::from(s[at + 11]));
         let line = u16_at(s, at + 8);
-        if s[at + 10] == 0 {
-            let name = u32_at(s, at + 4);
-            c.invoke(site, Tag::InvokeVirtual, exit, line, flags, name, out);
-        } else {
-            let function = u32_at(s, at);
-            c.invoke(site, Tag::InvokeStatic, exit, line, flags, function, out);
-        }
+        let value = invoke_value(s, at);
+        c.invoke(site, invoke_tag(s[at + 10]), exit, line, flags, value, out);
     }
 }
 

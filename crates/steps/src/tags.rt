@@ -1,6 +1,6 @@
 // The tags that a byte of the unit picks.
-ghost use Rattle.std.specs.Prelude.{◌≡◌, ◌<◌, ◌&&◌, [], ◌∷◌, ◌==◌, slice_index_or};
-ghost use Rattle.definitions.specs.Tag.{const_tag, I32Zero, I32One, I32Const, FalseConst, TrueConst, intrinsic_of};
+ghost use Rattle.std.specs.Prelude.{◌≡◌, ◌<◌, ◌≤◌, ◌-◌, true, cond, ◌&&◌, [], ◌∷◌, ◌==◌, slice_index_or};
+ghost use Rattle.definitions.specs.Tag.{const_tag, I32Zero, I32One, I32Const, FalseConst, TrueConst, InvokeVirtual, InvokeStatic, emitted, intrinsic_of};
 ghost use Rattle.instr.specs.Tags.{byte_of};
 ghost use Rattle.definitions.specs.Lower.{null_tag, element_tag, local_tag};
 
@@ -52,14 +52,26 @@ pub(crate) fn i32_tag(value: u64) -> Tag
     }
 }
 
+// The tag whose byte is less by n. What is required says that there is one, so unwrap_or never falls back.
+fn less(tag: Tag, n: u8) -> Tag
+    requires { (n ≤ byte_of tag) × (emitted (byte_of tag - n) ≡ true) }
+    ensures { byte_of result ≡ byte_of tag - n }
+{
+    Tag::try_from(tag.byte() - n).unwrap_or(tag)
+}
+
+// TrueConst stands right before FalseConst: less the mark, which is 0 or 1.
 pub(crate) fn bool_tag(value: u64) -> Tag
     ensures { byte_of result ≡ slice_index_or (FalseConst ∷ []) value TrueConst }
 {
-    if value == 0 {
-        Tag::FalseConst
-    } else {
-        Tag::TrueConst
-    }
+    less(Tag::FalseConst, value.min(1) as u8)
+}
+
+// InvokeStatic stands right before InvokeVirtual: less 1 where any bit of the flag byte, which is below 16, is set. A closure call has none.
+pub fn invoke_tag(flags: u8) -> Tag
+    ensures { byte_of result ≡ cond (flags == 0) InvokeVirtual InvokeStatic }
+{
+    less(Tag::InvokeVirtual, (flags.min(15) + 15) / 16)
 }
 
 // The tags of constants, by their byte. What stands here of an I32 and of a Bool is not read: their tag is that of their value.

@@ -7,6 +7,7 @@ use ir::expr::ExprKind;
 use steps::counters::Counters;
 use steps::heads::{makes_labels, parts_at};
 use steps::places::end_of;
+use steps::tags::invoke_tag;
 
 impl Holder<'_> {
     ghost use Rattle.std.specs.Prelude.{◌≡◌, true, ◌+◌, ◌≤◌, length, get_or};
@@ -199,7 +200,7 @@ impl Holder<'_> {
         below.node(first, c, out, marks)?;
         c.mark_label(context, marks);
         let past = c.new_label(at, marks)?;
-        c.invoke(at, Tag::InvokeVirtual, past, line, 0, name, out);
+        c.invoke(at, invoke_tag(0), past, line, 0, name, out);
         below.exprs(second + 10, c, out, marks)?;
         c.plain(at, Tag::ParamEnd, 0, 0, out);
         c.mark_label(past, marks);

@@ -3,7 +3,7 @@ use Rattle.definitions.specs.Lower.{flags_of}
 use Rattle.definitions.specs.Tree.{exprs_of}
 use Rattle.std.proofs.Common.{◌+◌, ◌%◌, ◌^◌, ap, ◌∙◌}
 use Rattle.steps.proofs.RunLaws.{called_at}
-use Rattle.steps.proofs.FlagLaws.{invoke_virtual_law, invoke_static_law}
+use Rattle.steps.proofs.FlagLaws.{invoke_law}
 use Rattle.steps.proofs.places.Nodes.emit_invoke.Goals as goal
 
 pub flags_of-flags-requires : goal.flags_of-flags-requires
@@ -11,8 +11,5 @@ flags_of-flags-requires c =
     let k = called_at _ _ _ _ _ c.from.ensures c.requires in
     record { accepted = k.0; at_le_end = k.1 }
 
-pub returns-then-s-at-eq0 : goal.returns-then-s-at-eq0
-returns-then-s-at-eq0 c = invoke_virtual_law _ _ _ _ _ _ (c.flags_of-flags.ensures ∙ ap (λ x. flags_of (exprs_of (list_of (exprs_from c.args.self.now.depth c.args.self.now.unit.now c.args.self.now.end (c.args.at + 16 + x)))) 1 % 2 ^ 16) c.from.ensures) c.u16_at-line.ensures.0 _ c.if-s-at-eq0.true c.u32_at-name.ensures.0 c.invoke.ensures
-
-pub returns-else-s-at-eq0 : goal.returns-else-s-at-eq0
-returns-else-s-at-eq0 c = invoke_static_law _ _ _ _ _ _ (c.flags_of-flags.ensures ∙ ap (λ x. flags_of (exprs_of (list_of (exprs_from c.args.self.now.depth c.args.self.now.unit.now c.args.self.now.end (c.args.at + 16 + x)))) 1 % 2 ^ 16) c.from.ensures) c.u16_at-line.ensures.0 _ c.if-s-at-eq0.false c.u32_at-function.ensures.0 c.invoke-else-s-at-eq0.ensures
+pub returns : goal.returns
+returns c = invoke_law _ _ _ _ _ _ (c.flags_of-flags.ensures ∙ ap (λ x. flags_of (exprs_of (list_of (exprs_from c.args.self.now.depth c.args.self.now.unit.now c.args.self.now.end (c.args.at + 16 + x)))) 1 % 2 ^ 16) c.from.ensures) c.u16_at-line.ensures.0 _ _ c.invoke_tag.ensures c.invoke_value-value.ensures c.invoke.ensures

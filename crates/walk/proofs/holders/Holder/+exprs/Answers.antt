@@ -87,10 +87,10 @@ pub closure-exprs-requires : goal.closure-exprs-requires
 closure-exprs-requires t c = let k = closure_here _ _ _ _ c.requires.accepted _ _ _ c.inner-below.ensures.node (span_of c.args.self.now.span) _ _ _ c.end_of-second.ensures c.u32_at-name.ensures.0 c.u16_at-line.ensures.0 c.requires.at_value in (omega (arith, (expr_placed _ _ _ _ c.requires.accepted.2).0), (k.run, (k.fits)))
 
 pub closure-returns-in_err-exprs : goal.closure-returns-in_err-exprs
-closure-returns-in_err-exprs t c = let k = closure_here _ _ _ _ c.requires.accepted _ _ _ c.inner-below.ensures.node (span_of c.args.self.now.span) _ _ _ c.end_of-second.ensures c.u32_at-name.ensures.0 c.u16_at-line.ensures.0 c.requires.at_value in exit _ _ c.from_residual-in_err-exprs.ensures.1 _ (recode k.code (made _ _ c.in_ok-context.ensures (both (emitted c.jump.ensures) (both c.in_ok-node.ensures (both (marked c.mark_label.ensures c.mark_label.auto.marks) (made _ _ c.in_ok-past.ensures (both (emitted c.invoke.ensures) (halt c.in_err-exprs.ensures _))))))))
+closure-returns-in_err-exprs t c = let k = closure_here _ _ _ _ c.requires.accepted _ _ _ c.inner-below.ensures.node (span_of c.args.self.now.span) _ _ _ c.end_of-second.ensures c.u32_at-name.ensures.0 c.u16_at-line.ensures.0 c.requires.at_value in exit _ _ c.from_residual-in_err-exprs.ensures.1 _ (recode k.code (made _ _ c.in_ok-context.ensures (both (emitted c.jump.ensures) (both c.in_ok-node.ensures (both (marked c.mark_label.ensures c.mark_label.auto.marks) (made _ _ c.in_ok-past.ensures (both (emitted (rw c.invoke_tag.ensures at c.invoke.ensures)) (halt c.in_err-exprs.ensures _))))))))
 
 pub closure-returns : goal.closure-returns
-closure-returns t c = let k = closure_here _ _ _ _ c.requires.accepted _ _ _ c.inner-below.ensures.node (span_of c.args.self.now.span) _ _ _ c.end_of-second.ensures c.u32_at-name.ensures.0 c.u16_at-line.ensures.0 c.requires.at_value in recode k.code (made _ _ c.in_ok-context.ensures (both (emitted c.jump.ensures) (both c.in_ok-node.ensures (both (marked c.mark_label.ensures c.mark_label.auto.marks) (made _ _ c.in_ok-past.ensures (both (emitted c.invoke.ensures) (both c.in_ok-exprs.ensures (both (emitted c.plain.ensures) (marked c.mark_label-2.ensures c.mark_label-2.auto.marks)))))))))
+closure-returns t c = let k = closure_here _ _ _ _ c.requires.accepted _ _ _ c.inner-below.ensures.node (span_of c.args.self.now.span) _ _ _ c.end_of-second.ensures c.u32_at-name.ensures.0 c.u16_at-line.ensures.0 c.requires.at_value in recode k.code (made _ _ c.in_ok-context.ensures (both (emitted c.jump.ensures) (both c.in_ok-node.ensures (both (marked c.mark_label.ensures c.mark_label.auto.marks) (made _ _ c.in_ok-past.ensures (both (emitted (rw c.invoke_tag.ensures at c.invoke.ensures)) (both c.in_ok-exprs.ensures (both (emitted c.plain.ensures) (marked c.mark_label-2.ensures c.mark_label-2.auto.marks)))))))))
 
 pub exprs-loop-item-init : goal.exprs-loop-item-init
 exprs-loop-item-init t c = rest_start _ _ _ _ _ _ _ c.requires.at_le_end c.requires.accepted
