@@ -1,14 +1,13 @@
--- The whole of `lower`: from what the reader and the walk ensure, lent empty buffers and whole ones. Assumes nothing.
+-- The whole of `lower`: from what the reader and the walk ensure, of a sink that keeps nothing and of a lent buffer. Assumes nothing.
 use Prim.Native.Nat.{ℕ, min, ◌-◌, ◌/◌, ◌≤◌, ◌<◌}
 use mathlib.Core.Path.{◌≡◌, refl, sym, ap, ◌∙◌}
 use mathlib.Core.Bool.{Bool, true, false}
-use mathlib.Core.List.{List, [], ◌∷◌, ◌++◌, append_assoc}
+use mathlib.Core.List.{List, ◌++◌, append_assoc}
 use native.Mathlib.Omega.{arith}
 use lib.Dec.{leb}
 use lib.ListN.{length, get_or, take, drop, length-append}
 use lib.Seq.{length-take-le, drop_at}
 use borrow.Author.Tests.{le-leb, lt-leb, leb-true}
-use borrow.Rule.Slice.PartMut.{put_mid, put_same}
 use Rattle.definitions.specs.Answer.{Answer, ok, refused, Result, made, refusal, onward, checked}
 use Rattle.definitions.specs.Instr.{Instr, record_length}
 use Rattle.definitions.specs.Tree.{Script}
@@ -30,7 +29,11 @@ use Rattle.ir.specs.Verdict.{unit_answer, map_value}
 use Rattle.ir.specs.declared.ReadUnit.{ReadUnit}
 use Rattle.ir.specs.declared.Class.TheVariants.{Statement}
 use Rattle.ir.proofs.UnitPlaces.{unit_at}
-use Rattle.steps.specs.Running.{Cells, run}
+use Rattle.std.specs.Borrow.{MutBor}
+use Rattle.steps.specs.Running.{Sinks, Cells, run, puts}
+use Rattle.steps.specs.Lent.{put_lent}
+use Rattle.steps.specs.declared.sinks.Listing.{Listing}
+use Rattle.steps.proofs.SinkLaws.{map_cells, natural}
 use Rattle.steps.specs.Walked.{Accepted, after, fill_code, ran, target_of, span_of, Did}
 use Rattle.scan.specs.Scanned.{Fits}
 use Rattle.assemble.specs.Whole.{unit_code, zeros, Lowers, answer, measuring}
@@ -39,7 +42,7 @@ use Rattle.walk.proofs.StmtCode.{block_code}
 use Rattle.walk.proofs.MidLaws.{code_is}
 use Rattle.laws.proofs.Inversion.{refusal_not_made}
 use Rattle.laws.proofs.Results.{made_is, onward_is}
-use Rattle.assemble.proofs.WholeLaws.{Totals, unit_stopped, unit_totals, unit_wrote}
+use Rattle.assemble.proofs.WholeLaws.{made_by, unit_stopped, unit_totals, unit_wrote}
 
 -- 1. What the reader says of a unit
 
@@ -78,12 +81,38 @@ unit_here s acc =
       code = code_is (λ u. Lower.code_of u) (parse_unit s) acc.0 acc.1 acc.2 ∙ ap (λ u. Lower.code_of u) k.tree ∙ sym (block_code 200 s (length s) 10 (outside (get_or s 5 0)) k.body (length s) k.run.reads);
     }
 
-pub walked_as : (s : List ℕ) (returns : ℕ) {A : Type 0} (r : std.Result A Refusal) (c : Counters) (o m o' m' : List ℕ) → Accepted (parse_unit s) → returns ≡ get_or s 5 0 →
-    Did (fill_code Statement 200 s (length s) 10 (span_of (record { break_target = std.None; continue_target = std.None; returns = returns }))) (record { offset = 0; labels = 0; count = 0 }) o m r c o' m' →
-    ran (after r c) o' m' ≡ run (unit_code s) (zeros o m)
+pub walked_as : {S : Type 0} {K : Sinks S} (s : List ℕ) (returns : ℕ) {A : Type 0} (r : std.Result A Refusal) (c : Counters) (o : S) (m : List ℕ) (o' : S) (m' : List ℕ) → Accepted (parse_unit s) → returns ≡ get_or s 5 0 →
+    Did K (fill_code Statement 200 s (length s) 10 (span_of (record { break_target = std.None; continue_target = std.None; returns = returns }))) (record { offset = 0; labels = 0; count = 0 }) o m r c o' m' →
+    ran (after r c) o' m' ≡ run K (unit_code s) (zeros o m)
 unfolding ran onward span_of target_of
-walked_as s returns r c o m o' m' acc e d =
-    d.same ∙ ap (λ n. run (fill_code Statement 200 s (length s) 10 (outside n)) (zeros o m)) e ∙ ap (λ c. run c (zeros o m)) (sym (unit_here s acc).code)
+walked_as {K = K} s returns r c o m o' m' acc e d =
+    d.same ∙ ap (λ n. run K (fill_code Statement 200 s (length s) 10 (outside n)) (zeros o m)) e ∙ ap (λ c. run K c (zeros o m)) (sym (unit_here s acc).code)
+
+-- a listing is its buffer
+abbrev listing_of : MutBor (List ℕ) → List ℕ → Listing
+listing_of b o = record { out = record { ref_ptr = b.ref_ptr; ghost_name = b.ghost_name; now = o } }
+
+abbrev lists : Sinks Listing
+lists s offset number i = record { out = put_lent s.out number i }
+
+refused_by : {A B : Type 0} (x : Result A) (f : A → B) {n p y : ℕ} → onward x (λ a. made (f a)) ≡ refusal n p y → x ≡ refusal n p y
+unfolding onward
+refused_by (made a) f e = refusal_not_made (sym e)
+refused_by (refusal n p y) f e = cc
+
+cells_are : {S : Type 0} (d : Cells S) {a b c : ℕ} {o : S} {m : List ℕ} → d.offset ≡ a → d.labels ≡ b → d.count ≡ c → d.sink ≡ o → d.marks ≡ m → d ≡ record { offset = a; labels = b; count = c; sink = o; marks = m }
+cells_are d e f g h i = rw (← e, ← f, ← g, ← h, ← i) refl
+
+-- what a walk into a listing leaves in the buffer that was lent for it, where the listing still has it
+pub listed_as : (code : Code) (b : MutBor (List ℕ)) (m : List ℕ) (r : std.Result Counters Refusal) (t : Listing) (m' x : List ℕ) →
+    ran r t m' ≡ run lists code (zeros (record { out = b }) m) → (b.ghost_name ≡ t.out.ghost_name → x ≡ t.out.now) → ran r x m' ≡ run puts code (zeros b.now m)
+unfolding ran
+listed_as code b m (Ok c) t m' x e h =
+    let k = made_by (run puts code (zeros b.now m)) (map_cells (listing_of b)) (sym (natural puts lists (listing_of b) (λ s z n i. refl) code (zeros b.now m)) ∙ sym e) in
+    let n : b.ghost_name ≡ t.out.ghost_name = ap (λ (z : Cells Listing). z.sink.out.ghost_name) k.2 in
+    let y : k.0.sink ≡ x = ap (λ (z : Cells Listing). z.sink.out.now) k.2 ∙ sym (h n) in
+    ap made (sym (cells_are k.0 (ap (λ (z : Cells Listing). z.offset) k.2) (ap (λ (z : Cells Listing). z.labels) k.2) (ap (λ (z : Cells Listing). z.count) k.2) y (ap (λ (z : Cells Listing). z.marks) k.2))) ∙ sym k.1
+listed_as code b m (Err q) t m' x e h = sym (refused_by (run puts code (zeros b.now m)) (map_cells (listing_of b)) (sym (natural puts lists (listing_of b) (λ s z n i. refl) code (zeros b.now m)) ∙ sym e))
 
 -- 3. The listing
 
@@ -131,22 +160,22 @@ done_answer : (d : Counters) (t : State) (x : Result State) (o m o₃ m₂ : Lis
 unfolding answer lower_to
 done_answer d t x o m o₃ m₂ e a b c f g = rw (e, a, b, c, f, g)
 
--- a walk of the unit, on whatever buffers
+-- a walk of the unit, whatever its sink and marks
 module _ (s : List ℕ) (acc : Accepted (parse_unit s)) where
   same_code : unit_code s ≡ Lower.code_of acc.0
   same_code = code_is (λ u. Lower.code_of u) (parse_unit s) acc.0 acc.1 acc.2
 
-  halted_is : (q : Refusal) (o₂ m₂ o₃ m₃ : List ℕ) → ran (Err q) o₂ m₂ ≡ run (unit_code s) (zeros o₃ m₃) → labelled s ≡ refusal (number_of q.reason) q.place q.extra
+  pub halted_is : {S : Type 0} (K : Sinks S) (q : Refusal) (o₂ : S) (m₂ : List ℕ) (o₃ : S) (m₃ : List ℕ) → ran (Err q) o₂ m₂ ≡ run K (unit_code s) (zeros o₃ m₃) → labelled s ≡ refusal (number_of q.reason) q.place q.extra
   unfolding ran
-  halted_is q o₂ m₂ o₃ m₃ w =
-      unit_stopped s acc.0 acc.1 acc.2 o₃ m₃ (number_of q.reason) q.place q.extra (ap (λ c. run c (zeros o₃ m₃)) (sym same_code) ∙ sym w)
+  halted_is K q o₂ m₂ o₃ m₃ w =
+      unit_stopped s acc.0 acc.1 acc.2 K o₃ m₃ (number_of q.reason) q.place q.extra (ap (λ c. run K c (zeros o₃ m₃)) (sym same_code) ∙ sym w)
 
-  abbrev cells_of : Counters → (out marks : List ℕ) → Cells
-  cells_of k o₂ m₂ = record { offset = k.offset; labels = k.labels; count = k.count; out = o₂; marks = m₂ }
+  abbrev pub cells_of : {S : Type 0} → Counters → (sink : S) (marks : List ℕ) → Cells S
+  cells_of k o₂ m₂ = record { offset = k.offset; labels = k.labels; count = k.count; sink = o₂; marks = m₂ }
 
-  runs_to : (k : Counters) (o₂ m₂ o₃ m₃ : List ℕ) → ran (Ok k) o₂ m₂ ≡ run (unit_code s) (zeros o₃ m₃) → run (Lower.code_of acc.0) (zeros o₃ m₃) ≡ made (cells_of k o₂ m₂)
+  pub runs_to : {S : Type 0} (K : Sinks S) (k : Counters) (o₂ : S) (m₂ : List ℕ) (o₃ : S) (m₃ : List ℕ) → ran (Ok k) o₂ m₂ ≡ run K (unit_code s) (zeros o₃ m₃) → run K (Lower.code_of acc.0) (zeros o₃ m₃) ≡ made (cells_of k o₂ m₂)
   unfolding ran
-  runs_to k o₂ m₂ o₃ m₃ w = ap (λ c. run c (zeros o₃ m₃)) (sym same_code) ∙ sym w
+  runs_to K k o₂ m₂ o₃ m₃ w = ap (λ c. run K c (zeros o₃ m₃)) (sym same_code) ∙ sym w
 
 -- nothing refuses the unit, and the buffers have room: taken apart, and put together
 passed : {A : Type 0} (b : Bool) (n p x : ℕ) (r : Result A) {a : A} → checked b n p x r ≡ made a → (b ≡ true) × (r ≡ made a)
@@ -189,13 +218,13 @@ module _ (s o m : List ℕ) (f : Lowers s (length o) (length m)) (o₂ m₂ : Li
   acc : Accepted (parse_unit s)
   acc = lowers_accepted s (length o) (length m) f
 
-  pub fill_never : (q : Refusal) → ran (Err q) o₂ m₂ ≡ run (unit_code s) (zeros o m) → {X : Type 0} → X
-  fill_never q w = refusal_not_made (sym (sym (lowers_is s (length o) (length m) f.0 f.1).0 ∙ halted_is s acc q o₂ m₂ o m w))
+  pub fill_never : (q : Refusal) → ran (Err q) o₂ m₂ ≡ run puts (unit_code s) (zeros o m) → {X : Type 0} → X
+  fill_never q w = refusal_not_made (sym (sym (lowers_is s (length o) (length m) f.0 f.1).0 ∙ halted_is s acc puts q o₂ m₂ o m w))
 
-  pub fill_done : (d : Counters) (o₃ : List ℕ) → ran (Ok d) o₂ m₂ ≡ run (unit_code s) (zeros o m) → o₃ ≡ front_written d.count o₂ → answer (Ok d) o₃ m₂ ≡ lower_to (lower_into s (length o) (length m)) o m
+  pub fill_done : (d : Counters) (o₃ : List ℕ) → ran (Ok d) o₂ m₂ ≡ run puts (unit_code s) (zeros o m) → o₃ ≡ front_written d.count o₂ → answer (Ok d) o₃ m₂ ≡ lower_to (lower_into s (length o) (length m)) o m
   fill_done d o₃ w e =
-      let x = runs_to s acc d o₂ m₂ o m w in
-      let t = unit_totals s acc.0 acc.1 acc.2 o m (cells_of s acc d o₂ m₂) x in
+      let x = runs_to s acc puts d o₂ m₂ o m w in
+      let t = unit_totals s acc.0 acc.1 acc.2 puts o m (cells_of s acc d o₂ m₂) x in
       let k = lowers_is s (length o) (length m) f.0 f.1 in
       let u : f.0 ≡ t.state = made_is (sym k.0 ∙ t.whole) in
       let g : listing_length (length t.state.instrs) ≤ length o = rw u at k.1 in
@@ -212,20 +241,20 @@ measured_is : (s : List ℕ) (t : State) → labelled s ≡ made t → measure s
 unfolding measure onward
 measured_is s t e = rw (e, onward)
 
-module _ (s : List ℕ) (acc : Accepted (parse_unit s)) (o₂ m₂ o₃ m₃ : List ℕ) where
-  pub measure_stopped : (q : Refusal) → ran (Err q) o₂ m₂ ≡ run (unit_code s) (zeros o₃ m₃) → measuring (Err q) ≡ measure s
+module _ (s : List ℕ) (acc : Accepted (parse_unit s)) {S : Type 0} (K : Sinks S) (o₂ : S) (m₂ : List ℕ) (o₃ : S) (m₃ : List ℕ) where
+  pub measure_stopped : (q : Refusal) → ran (Err q) o₂ m₂ ≡ run K (unit_code s) (zeros o₃ m₃) → measuring (Err q) ≡ measure s
   unfolding measuring measure onward
-  measure_stopped q w = rw (halted_is s acc q o₂ m₂ o₃ m₃ w, onward)
+  measure_stopped q w = rw (halted_is s acc K q o₂ m₂ o₃ m₃ w, onward)
 
-  pub measure_done : (k : Counters) → ran (Ok k) o₂ m₂ ≡ run (unit_code s) (zeros o₃ m₃) → measuring (Ok k) ≡ measure s
+  pub measure_done : (k : Counters) → ran (Ok k) o₂ m₂ ≡ run K (unit_code s) (zeros o₃ m₃) → measuring (Ok k) ≡ measure s
   unfolding measuring
   measure_done k w =
-      let t = unit_totals s acc.0 acc.1 acc.2 o₃ m₃ (cells_of s acc k o₂ m₂) (runs_to s acc k o₂ m₂ o₃ m₃ w) in
+      let t = unit_totals s acc.0 acc.1 acc.2 K o₃ m₃ (cells_of s acc k o₂ m₂) (runs_to s acc K k o₂ m₂ o₃ m₃ w) in
       measured_as t.offset t.labels t.count ∙ sym (measured_is s t.state t.whole)
 
-pub measures : (s : List ℕ) (r : std.Result Counters Refusal) (o₂ m₂ o₃ m₃ : List ℕ) → Accepted (parse_unit s) → ran r o₂ m₂ ≡ run (unit_code s) (zeros o₃ m₃) → measuring r ≡ measure s
-measures s (Ok k) o₂ m₂ o₃ m₃ acc w = measure_done s acc o₂ m₂ o₃ m₃ k w
-measures s (Err q) o₂ m₂ o₃ m₃ acc w = measure_stopped s acc o₂ m₂ o₃ m₃ q w
+pub measures : {S : Type 0} (K : Sinks S) (s : List ℕ) (r : std.Result Counters Refusal) (o₂ : S) (m₂ : List ℕ) (o₃ : S) (m₃ : List ℕ) → Accepted (parse_unit s) → ran r o₂ m₂ ≡ run K (unit_code s) (zeros o₃ m₃) → measuring r ≡ measure s
+measures K s (Ok k) o₂ m₂ o₃ m₃ acc w = measure_done s acc K o₂ m₂ o₃ m₃ k w
+measures K s (Err q) o₂ m₂ o₃ m₃ acc w = measure_stopped s acc K o₂ m₂ o₃ m₃ q w
 
 -- 6. What a measure says of lowering
 

@@ -7,7 +7,7 @@ use native.Mathlib.Omega.{arith}
 use lib.Dec.{ltb}
 use lib.ListN.{length, set, take, drop, length-append, length-set, length-drop, take-append-drop}
 use lib.Seq.{length-take-le, take_at, drop-append-add, drop-drop, set-append_left, set-append_seam}
-use Rattle.steps.proofs.StepLaws.{set_out}
+use Rattle.steps.proofs.StepLaws.{set_out, put_cut}
 use borrow.Author.Tests.{le-leb, ltb-true, ltb-false}
 use Rattle.definitions.specs.Instr.{Instr, size, record_length, record_bytes}
 use Rattle.definitions.specs.Listing.{front_length, listing_length, records_bytes, record_limit}
@@ -24,17 +24,17 @@ use Rattle.ir.proofs.UnitPlaces.{unit_at}
 use Rattle.assemble.specs.Whole.{zeros}
 use Rattle.laws.proofs.Inversion.{impossible, refusal_not_made}
 use Rattle.laws.proofs.Results.{made_is, onward_is}
-use Rattle.steps.specs.Running.{Cells, put, set_made, move, run}
+use Rattle.steps.specs.Running.{Sinks, Cells, put, puts, set_made, move, run}
 
 -- 1. Counters and refusals, whatever the buffers hold
 
-pub record Counts (c : Cells) (t : State) : Type 0 where
+pub record Counts {S : Type 0} (c : Cells S) (t : State) : Type 0 where
   pub labels : c.labels ≡ length t.marks
   pub count : c.count ≡ length t.instrs % 2 ^ 32
   pub offset : c.offset ≡ t.offset % 2 ^ 32
 
-pub data Agrees : Result Cells → Result State → Type 0 where
-  both_go : (c : Cells) (t : State) → Counts c t → Agrees (made c) (made t)
+pub data Agrees {S : Type 0} : Result (Cells S) → Result State → Type 0 where
+  both_go : (c : Cells S) (t : State) → Counts c t → Agrees (made c) (made t)
   both_stop : (n p x : ℕ) → Agrees (refusal n p x) (refusal n p x)
 
 same_long : (m : List ℕ) (l v : ℕ) → length (set m l v) ≡ length m
@@ -43,37 +43,37 @@ same_long m l v = simp length-set
 mod_add : (a b k : ℕ) → a ≡ b % 2 ^ 32 → (a + k) % 2 ^ 32 ≡ (b + k) % 2 ^ 32
 mod_add a b k h = omega arith
 
-new_agrees : (at : ℕ) (c : Cells) (t : State) → Counts c t → Agrees (move (new at) c) (step (new at) t)
+new_agrees : {S : Type 0} (K : Sinks S) (at : ℕ) (c : Cells S) (t : State) → Counts c t → Agrees (move K (new at) c) (step (new at) t)
 unfolding move step checked
-new_agrees at c t k = go (ltb (length t.marks) label_limit) (ap (λ n. ltb n label_limit) k.labels) refl
+new_agrees K at c t k = go (ltb (length t.marks) label_limit) (ap (λ n. ltb n label_limit) k.labels) refl
   where
-    go : (b : Bool) → ltb c.labels label_limit ≡ b → ltb (length t.marks) label_limit ≡ b → Agrees (move (new at) c) (step (new at) t)
+    go : (b : Bool) → ltb c.labels label_limit ≡ b → ltb (length t.marks) label_limit ≡ b → Agrees (move K (new at) c) (step (new at) t)
     go true e f =
         let z : c.labels + 1 ≡ length (t.marks ++ (unmarked ∷ [])) = omega (arith, k.labels, length-append t.marks (unmarked ∷ [])) in
         rw (move, e, step, f, checked) (both_go _ _ (record { labels = z; count = k.count; offset = k.offset }))
     go false e f = rw (move, e, step, f, checked) (both_stop 15 at 0)
 
-pub step_agrees : (a : Action) (c : Cells) (t : State) → Counts c t → Agrees (move a c) (step a t)
+pub step_agrees : {S : Type 0} (K : Sinks S) (a : Action) (c : Cells S) (t : State) → Counts c t → Agrees (move K a c) (step a t)
 unfolding move step
-step_agrees (new at) c t k = new_agrees at c t k
-step_agrees (mark l) c t k = both_go _ _ (record { labels = k.labels ∙ sym (same_long t.marks l t.offset); count = k.count; offset = k.offset })
-step_agrees (emit i) c t k = both_go _ _ (record { labels = k.labels; count = mod_add c.count (length t.instrs) 1 k.count ∙ ap (λ n. n % 2 ^ 32) (sym (length-append t.instrs (i ∷ []))); offset = mod_add c.offset t.offset (size i) k.offset })
-step_agrees (refuse n p x) c t k = both_stop n p x
+step_agrees K (new at) c t k = new_agrees K at c t k
+step_agrees K (mark l) c t k = both_go _ _ (record { labels = k.labels ∙ sym (same_long t.marks l t.offset); count = k.count; offset = k.offset })
+step_agrees K (emit i) c t k = both_go _ _ (record { labels = k.labels; count = mod_add c.count (length t.instrs) 1 k.count ∙ ap (λ n. n % 2 ^ 32) (sym (length-append t.instrs (i ∷ []))); offset = mod_add c.offset t.offset (size i) k.offset })
+step_agrees K (refuse n p x) c t k = both_stop n p x
 
-pub then_agrees : (x : Result Cells) (y : Result State) (f : Cells → Result Cells) (g : State → Result State) → Agrees x y → ((c : Cells) (t : State) → Counts c t → Agrees (f c) (g t)) → Agrees (onward x f) (onward y g)
+pub then_agrees : {S : Type 0} (x : Result (Cells S)) (y : Result State) (f : Cells S → Result (Cells S)) (g : State → Result State) → Agrees x y → ((c : Cells S) (t : State) → Counts c t → Agrees (f c) (g t)) → Agrees (onward x f) (onward y g)
 unfolding onward
 then_agrees x y f g (both_go c t k) h = h c t k
 then_agrees x y f g (both_stop n p e) h = both_stop n p e
 
 -- ON ANY BUFFERS, EMPTY ONES TOO: the same refusals, and the definition's totals modulo 2 ^ 32
-pub agrees : (code : Code) (c : Cells) (t : State) → Counts c t → Agrees (run code c) (execute code t)
+pub agrees : {S : Type 0} (K : Sinks S) (code : Code) (c : Cells S) (t : State) → Counts c t → Agrees (run K code c) (execute code t)
 unfolding run execute
-agrees done c t k = both_go c t k
-agrees (act a) c t k = step_agrees a c t k
-agrees (p then q) c t k = then_agrees (run p c) (execute p t) (run q) (execute q) (agrees p c t k) (λ d u j. agrees q d u j)
-agrees (label at f) c t k =
-    then_agrees (move (new at) c) (step (new at) t) (run (f c.labels)) (execute (f (length t.marks))) (step_agrees (new at) c t k)
-    (λ d u j. subst (λ l. Agrees (run (f l) d) (execute (f (length t.marks)) u)) (sym k.labels) (agrees (f (length t.marks)) d u j))
+agrees K done c t k = both_go c t k
+agrees K (act a) c t k = step_agrees K a c t k
+agrees K (p then q) c t k = then_agrees (run K p c) (execute p t) (run K q) (execute q) (agrees K p c t k) (λ d u j. agrees K q d u j)
+agrees K (label at f) c t k =
+    then_agrees (move K (new at) c) (step (new at) t) (run K (f c.labels)) (execute (f (length t.marks))) (step_agrees K (new at) c t k)
+    (λ d u j. subst (λ l. Agrees (run K (f l) d) (execute (f (length t.marks)) u)) (sym k.labels) (agrees K (f (length t.marks)) d u j))
 
 -- 2. What is emitted only grows
 
@@ -82,7 +82,7 @@ pub record Grows (t t' : State) : Type 0 where
   pub count : length t.instrs ≤ length t'.instrs
   pub labels : length t.marks ≤ length t'.marks
 
-step_grows : (a : Action) (t t' : State) → step a t ≡ made t' → Grows t t'
+pub step_grows : (a : Action) (t t' : State) → step a t ≡ made t' → Grows t t'
 unfolding step checked
 step_grows (new at) t t' e = go (ltb (length t.marks) label_limit) refl
   where
@@ -103,10 +103,14 @@ grows (act a) t t' e = step_grows a t t' e
 grows (p then q) t t' e = let k = onward_is (execute p t) (execute q) e in grows_on (grows p t k.0 k.1) (grows q k.0 t' k.2)
 grows (label at f) t t' e = let k = onward_is (step (new at) t) (execute (f (length t.marks))) e in grows_on (step_grows (new at) t k.0 k.1) (grows (f (length t.marks)) k.0 t' k.2)
 
+-- what a value was made of
+pub made_by : {A B : Type 0} (x : Result A) (f : A → B) {b : B} → onward x (λ a. made (f a)) ≡ made b → (a : A) × (x ≡ made a) × (f a ≡ b)
+made_by x f e = let k = onward_is x (λ a. made (f a)) e in (k.0, k.1, made_is k.2)
+
 -- 3. With room: the definition's lists, then what stood there
 
-pub record Wrote (o m : List ℕ) (c : Cells) (t : State) : Type 0 where
-  pub out : c.out ≡ (take front_length o ++ records_bytes t.instrs) ++ drop (listing_length (length t.instrs)) o
+pub record Wrote (o m : List ℕ) (c : Cells (List ℕ)) (t : State) : Type 0 where
+  pub out : c.sink ≡ (take front_length o ++ records_bytes t.instrs) ++ drop (listing_length (length t.instrs)) o
   pub marks : c.marks ≡ t.marks ++ drop (length t.marks) m
 
 -- the whole fits, and no counter has wrapped
@@ -156,7 +160,7 @@ new_next t m v h = go (drop (length t) m) refl
 pub small_mod : (a n : ℕ) → a ≡ n % 2 ^ 32 → n < 2 ^ 32 → a ≡ n
 small_mod a n e h = omega arith
 
-step_wrote : (a : Action) (o m : List ℕ) (c : Cells) (t : State) (c' : Cells) (t' : State) → Counts c t → Wrote o m c t → move a c ≡ made c' → step a t ≡ made t' → Fits o m t → Fits o m t' → Wrote o m c' t'
+step_wrote : (a : Action) (o m : List ℕ) (c : Cells (List ℕ)) (t : State) (c' : Cells (List ℕ)) (t' : State) → Counts c t → Wrote o m c t → move puts a c ≡ made c' → step a t ≡ made t' → Fits o m t → Fits o m t' → Wrote o m c' t'
 unfolding move step checked
 step_wrote (new at) o m c t c' t' k w e f g h = go (ltb (length t.marks) label_limit) refl
   where
@@ -175,33 +179,33 @@ step_wrote (emit i) o m c t c' t' k w e f g h =
     let x : c.count ≡ length t.instrs = small_mod c.count (length t.instrs) k.count g.count in
     let y : length (t.instrs ++ (i ∷ [])) ≡ length t.instrs + 1 = length-append t.instrs (i ∷ []) in
     let n : listing_length (length (t.instrs ++ (i ∷ []))) ≤ length o = rw (← u) at h.bytes in
-    rw (← u, ← (made_is e)) (record { out = rw (w.out, x, y) (put_next o t.instrs i (omega (arith, n, y))); marks = w.marks })
+    rw (← u, ← (made_is e)) (record { out = rw (put_cut c.sink c.count i, w.out, x, y) (put_next o t.instrs i (omega (arith, n, y))); marks = w.marks })
 step_wrote (refuse n p x) o m c t c' t' k w e f g h = refusal_not_made f
 
-counts_of : {x : Result Cells} {y : Result State} {c : Cells} {t : State} → Agrees x y → x ≡ made c → y ≡ made t → Counts c t
+pub counts_of : {S : Type 0} {x : Result (Cells S)} {y : Result State} {c : Cells S} {t : State} → Agrees x y → x ≡ made c → y ≡ made t → Counts c t
 counts_of (both_go d u k) e f = rw (← (made_is e), ← (made_is f)) k
 counts_of (both_stop n p x) e f = refusal_not_made f
 
 -- WITH ROOM, and where the definition's totals are below 2 ^ 32: the definition's lists
-pub wrote : (code : Code) (o m : List ℕ) (c : Cells) (t : State) (c' : Cells) (t' : State) → Counts c t → Wrote o m c t → run code c ≡ made c' → execute code t ≡ made t' → Fits o m t' → Wrote o m c' t'
+pub wrote : (code : Code) (o m : List ℕ) (c : Cells (List ℕ)) (t : State) (c' : Cells (List ℕ)) (t' : State) → Counts c t → Wrote o m c t → run puts code c ≡ made c' → execute code t ≡ made t' → Fits o m t' → Wrote o m c' t'
 unfolding run execute
 wrote done o m c t c' t' k w e f h = rw (← (made_is f), ← (made_is e)) w
 wrote (act a) o m c t c' t' k w e f h = step_wrote a o m c t c' t' k w e f (fits_before (step_grows a t t' f) h) h
 wrote (p then q) o m c t c' t' k w e f h =
-    let a = onward_is (run p c) (run q) e in
+    let a = onward_is (run puts p c) (run puts q) e in
     let b = onward_is (execute p t) (execute q) f in
     let h₁ = fits_before (grows q b.0 t' b.2) h in
-    wrote q o m a.0 b.0 c' t' (counts_of (agrees p c t k) a.1 b.1) (wrote p o m c t a.0 b.0 k w a.1 b.1 h₁) a.2 b.2 h
+    wrote q o m a.0 b.0 c' t' (counts_of (agrees puts p c t k) a.1 b.1) (wrote p o m c t a.0 b.0 k w a.1 b.1 h₁) a.2 b.2 h
 wrote (label at f) o m c t c' t' k w e g h =
-    let a = onward_is (move (new at) c) (run (f c.labels)) e in
+    let a = onward_is (move puts (new at) c) (run puts (f c.labels)) e in
     let b = onward_is (step (new at) t) (execute (f (length t.marks))) g in
     let h₁ = fits_before (grows (f (length t.marks)) b.0 t' b.2) h in
-    wrote (f (length t.marks)) o m a.0 b.0 c' t' (counts_of (step_agrees (new at) c t k) a.1 b.1)
-    (step_wrote (new at) o m c t a.0 b.0 k w a.1 b.1 (fits_before (step_grows (new at) t b.0 b.1) h₁) h₁) (sym (ap (λ l. run (f l) a.0) k.labels) ∙ a.2) b.2 h
+    wrote (f (length t.marks)) o m a.0 b.0 c' t' (counts_of (step_agrees puts (new at) c t k) a.1 b.1)
+    (step_wrote (new at) o m c t a.0 b.0 k w a.1 b.1 (fits_before (step_grows (new at) t b.0 b.1) h₁) h₁) (sym (ap (λ l. run puts (f l) a.0) k.labels) ∙ a.2) b.2 h
 
 -- 4. A unit
 
-pub zero_counts : (o m : List ℕ) → Counts (zeros o m) start
+pub zero_counts : {S : Type 0} (o : S) (m : List ℕ) → Counts (zeros o m) start
 zero_counts o m = record { labels = refl; count = refl; offset = refl }
 
 zero_wrote : (o m : List ℕ) → Wrote o m (zeros o m) start
@@ -209,17 +213,17 @@ unfolding records_bytes
 zero_wrote o m = record { out = sym (rw (append-nil (take front_length o)) (take-append-drop front_length o)); marks = refl }
 
 module _ (s : List ℕ) (u : Script) (next : ℕ) (read : parse_unit s ≡ ok u next) where
-  -- a walk that stopped, on whatever buffers: the definition's refusal
-  pub unit_stopped : (o m : List ℕ) (n p x : ℕ) → run (code_of u) (zeros o m) ≡ refusal n p x → labelled s ≡ refusal n p x
+  -- a walk that stopped, whatever its sink and marks: the definition's refusal
+  pub unit_stopped : {S : Type 0} (K : Sinks S) (o : S) (m : List ℕ) (n p x : ℕ) → run K (code_of u) (zeros o m) ≡ refusal n p x → labelled s ≡ refusal n p x
   unfolding lowered
-  unit_stopped o m n p x e = rw (read, lowered) (go (run (code_of u) (zeros o m)) (execute (code_of u) start) (agrees (code_of u) (zeros o m) start (zero_counts o m)) e)
+  unit_stopped {S} K o m n p x e = rw (read, lowered) (go (run K (code_of u) (zeros o m)) (execute (code_of u) start) (agrees K (code_of u) (zeros o m) start (zero_counts o m)) e)
     where
-      go : (a : Result Cells) (y : Result State) → Agrees a y → a ≡ refusal n p x → y ≡ refusal n p x
+      go : (a : Result (Cells S)) (y : Result State) → Agrees a y → a ≡ refusal n p x → y ≡ refusal n p x
       go a y (both_stop n' p' x') f = cc
       go a y (both_go c t k) f = impossible (cc)
 
-  -- a walk that did not, on whatever buffers: the definition's state, and its totals, of which none has wrapped
-  pub record Totals (c : Cells) : Type 0 where
+  -- a walk that did not, whatever its sink and marks: the definition's state, and its totals, of which none has wrapped
+  pub record Totals {S : Type 0} (c : Cells S) : Type 0 where
     pub state : State
     pub walks_to : execute (code_of u) start ≡ made state
     pub whole : labelled s ≡ made state
@@ -229,11 +233,11 @@ module _ (s : List ℕ) (u : Script) (next : ℕ) (read : parse_unit s ≡ ok u 
     pub small : (state.offset < 2 ^ 32) × (length state.instrs < 2 ^ 32)
     pub few : length state.instrs ≤ record_limit
 
-  pub unit_totals : (o m : List ℕ) (c : Cells) → run (code_of u) (zeros o m) ≡ made c → Totals c
+  pub unit_totals : {S : Type 0} (K : Sinks S) (o : S) (m : List ℕ) (c : Cells S) → run K (code_of u) (zeros o m) ≡ made c → Totals c
   unfolding lowered
-  unit_totals o m c e = go (run (code_of u) (zeros o m)) (execute (code_of u) start) refl (agrees (code_of u) (zeros o m) start (zero_counts o m)) e
+  unit_totals {S} K o m c e = go (run K (code_of u) (zeros o m)) (execute (code_of u) start) refl (agrees K (code_of u) (zeros o m) start (zero_counts o m)) e
     where
-      go : (a : Result Cells) (y : Result State) → execute (code_of u) start ≡ y → Agrees a y → a ≡ made c → Totals c
+      go : (a : Result (Cells S)) (y : Result State) → execute (code_of u) start ≡ y → Agrees a y → a ≡ made c → Totals c
       go a y q (both_stop n p x) f = impossible (cc)
       go a y q (both_go d t k) f =
           let b = bounded s u next read t q in
@@ -253,6 +257,6 @@ module _ (s : List ℕ) (u : Script) (next : ℕ) (read : parse_unit s ≡ ok u 
           })
 
   -- with room for the definition's lists: what the buffers hold
-  pub unit_wrote : (o m : List ℕ) (c : Cells) → run (code_of u) (zeros o m) ≡ made c → (k : Totals c) → listing_length (length k.state.instrs) ≤ length o → length k.state.marks ≤ length m → Wrote o m c k.state
+  pub unit_wrote : (o m : List ℕ) (c : Cells (List ℕ)) → run puts (code_of u) (zeros o m) ≡ made c → (k : Totals c) → listing_length (length k.state.instrs) ≤ length o → length k.state.marks ≤ length m → Wrote o m c k.state
   unit_wrote o m c e k h l =
       wrote (code_of u) o m (zeros o m) start c k.state (zero_counts o m) (zero_wrote o m) e k.walks_to (record { offset = k.small.0; count = k.small.1; bytes = h; words = l })

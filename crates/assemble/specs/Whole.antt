@@ -15,9 +15,9 @@ use Rattle.steps.specs.declared.counters.Counters.{Counters}
 abbrev pub unit_code : (s : List ℕ) → Code
 unit_code s = code_of (λ u. Lower.code_of u) (parse_unit s)
 
--- the walk's start, on these buffers
-abbrev pub zeros : (out marks : List ℕ) → Cells
-zeros o m = record { offset = 0; labels = 0; count = 0; out = o; marks = m }
+-- the walk's start, on this sink and these marks
+abbrev pub zeros : {S : Type 0} → (sink : S) (marks : List ℕ) → Cells S
+zeros o m = record { offset = 0; labels = 0; count = 0; sink = o; marks = m }
 
 -- a unit that is lowered into buffers of so many bytes and words: nothing refuses it
 abbrev pub Lowers : (s : List ℕ) (bytes words : ℕ) → Type 0

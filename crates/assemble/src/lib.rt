@@ -4,7 +4,7 @@
 ghost use Rattle.std.specs.Prelude.{◌≡◌, true, length};
 ghost use Rattle.definitions.specs.Read.{parse_unit};
 ghost use Rattle.definitions.specs.Stage.{lower_into, lower_to, measure};
-ghost use Rattle.steps.specs.Running.{run};
+ghost use Rattle.steps.specs.Running.{run, puts};
 ghost use Rattle.steps.specs.Walked.{Accepted, ran};
 ghost use Rattle.assemble.specs.Whole.{unit_code, zeros, Lowers, answer, measuring};
 
@@ -14,14 +14,15 @@ use instr::refusals::{Reason, Refusal};
 use ir::DEPTH_LIMIT;
 use steps::counters::Counters;
 use steps::labels::LABELS;
+use steps::sinks::{Listing, Nothing, Sink};
 use steps::spans::BlockSpan;
 use walk::nodes::stmts;
 
-// The walk over a unit that was read: its totals, or why it is not lowered.
+// The walk over a unit that was read: its totals, or why it is not lowered; and what the sink and the marks are then.
 #[tactic(auto, using(crate::proofs::LowerLaws::walked_as))]
-fn walk_unit(s: &[u8], out: &mut [u8], marks: &mut [u32]) -> Result<Counters, Refusal>
+fn walk_unit<S: Sink>(s: &[u8], sink: &mut S, marks: &mut [u32]) -> Result<Counters, Refusal>
     requires { Accepted (parse_unit s.now) }
-    ensures { ran result out.new marks.new ≡ run (unit_code s.now) (zeros out.old marks.old) }
+    ensures { ran result sink.new marks.new ≡ run S.emitted (unit_code s.now) (zeros sink.old marks.old) }
 {
     let mut c = Counters::new();
     let span = BlockSpan {
@@ -29,17 +30,26 @@ fn walk_unit(s: &[u8], out: &mut [u8], marks: &mut [u32]) -> Result<Counters, Re
         continue_target: None,
         returns: usize::from(s[5]),
     };
-    stmts(s, 10, s.len(), DEPTH_LIMIT, span, &mut c, out, marks)?;
+    stmts(s, 10, s.len(), DEPTH_LIMIT, span, &mut c, sink, marks)?;
     Ok(c)
 }
 
-// What a unit takes: its totals, whatever room there is, or the refusal. The walk writes nothing into empty buffers.
+// The same into a lent buffer.
+fn list_unit(s: &[u8], out: &mut [u8], marks: &mut [u32]) -> Result<Counters, Refusal>
+    requires { Accepted (parse_unit s.now) }
+    ensures { ran result out.new marks.new ≡ run puts (unit_code s.now) (zeros out.old marks.old) }
+{
+    let mut sink = Listing { out };
+    walk_unit(s, &mut sink, marks)
+}
+
+// What a unit takes: its totals, whatever room there is, or the refusal. The walk keeps no record and no mark.
 #[tactic(auto, using(crate::proofs::LowerLaws::read_accepted, crate::proofs::LowerLaws::read_refused, crate::proofs::LowerLaws::measures))]
 pub fn measure(unit: &[u8]) -> Result<Counters, Refusal>
     ensures { measuring result ≡ measure unit.now }
 {
     ir::read_unit(unit)?;
-    walk_unit(unit, &mut [], &mut [])
+    walk_unit(unit, &mut Nothing, &mut [])
 }
 
 // A unit that is lowered into these buffers: the walk and the listing's front.
@@ -48,7 +58,7 @@ fn fill(s: &[u8], out: &mut [u8], marks: &mut [u32]) -> Result<Counters, Refusal
     requires { Lowers s.now (length out.old) (length marks.old) }
     ensures { answer result out.new marks.new ≡ lower_to (lower_into s.now (length out.old) (length marks.old)) out.old marks.old }
 {
-    let c = walk_unit(s, out, marks)?;
+    let c = list_unit(s, out, marks)?;
     listings::write_front(out, c.count);
     Ok(c)
 }

@@ -3,7 +3,6 @@ use Rattle.std.proofs.Common.{◌≡◌, ℕ, zero, suc, ◌+◌, ◌*◌, ◌%�
 use Rattle.std.specs.Prelude as std
 use Rattle.definitions.specs.Answer.{ok}
 use Rattle.definitions.specs.Bytes.{number}
-use Rattle.definitions.specs.Instr.{record_bytes}
 use Rattle.definitions.specs.Tree.{Expr, Exprs, enil, econs, exprs_of, place_of}
 use Rattle.definitions.specs.Read.{parse_expr}
 use Rattle.definitions.specs.Code.{Code, ◌then◌}
@@ -14,8 +13,9 @@ use Rattle.ir.specs.Places.{end_of}
 use Rattle.ir.specs.Args.{flagged_at}
 use Rattle.ir.proofs.ArgLaws.{flagged_read, place_is}
 use Rattle.ir.proofs.Inversion.{expr_at, expr_moves, fill_none}
+use Rattle.steps.specs.Running.{Sinks, noted}
 use Rattle.steps.specs.Walked.{Accepted, list_of, exprs_from, callee_at, EmittedFrom, LeftFrom, Walk}
-use Rattle.steps.proofs.StepLaws.{recode, emit_alike, bytes_cut}
+use Rattle.steps.proofs.StepLaws.{recode, emit_alike}
 use Rattle.steps.proofs.RunLaws.{Goes, goes_on, goes_end, goes_stops, one_step, renamed, Turn, turn, listed}
 
 -- 1. The check
@@ -25,7 +25,7 @@ pub record FlagsRest (d : ℕ) (s : List ℕ) (end : ℕ) (code : Code) (w : Wal
   pub acc : Accepted (exprs_from d s end i)
   pub to : i ≤ end
   pub few : k ≤ i
-  pub goes : (o m : List ℕ) → Goes code w o m (require_flags (exprs_of (list_of (exprs_from d s end i))) k) v o m
+  pub goes : (m : List ℕ) → Goes noted code w [] m (require_flags (exprs_of (list_of (exprs_from d s end i))) k) v [] m
 
 pub arg_turn : (d : ℕ) (s : List ℕ) (end i : ℕ) (a : Accepted (exprs_from d s end i)) → i < end → Turn (parse_expr d s) end i a.0 a.1
 arg_turn d s end i a h = turn (parse_expr d s) end i (expr_moves d s end) h a.2
@@ -63,15 +63,15 @@ flags_next {d} {s} {end} {i = i} {k = k} {v = v} r h flagged fits next v₂ tell
       acc = b.0;
       to = b.1;
       few = omega (arith, r.few, b.2);
-      goes = λ o m. goes_on (r.goes o m) (goes_on (renamed v o m (ap (λ xs. require_flags (exprs_of xs) k) b.3 ∙ flags_cons t.item _ k)) (one_step _ (recode c (l.did o m))));
+      goes = λ m. goes_on (r.goes m) (goes_on (renamed v [] m (ap (λ xs. require_flags (exprs_of xs) k) b.3 ∙ flags_cons t.item _ k)) (one_step _ (recode c (l.did m))));
     }
 
 pub flags_end : {d : ℕ} {s : List ℕ} {end : ℕ} {code : Code} {w : Walk} {i k : ℕ} {v : Walk} → FlagsRest d s end code w i k v → end ≤ i → LeftFrom code w v
 unfolding require_flags exprs_of list_of
-flags_end {d} {s} {end} {i = i} {k = k} {v = v} r h = record { did = λ o m. goes_end (goes_on (r.goes o m) (renamed v o m (ap (λ xs. require_flags (exprs_of xs) k) (none_left d s end i r.acc h)))) }
+flags_end {d} {s} {end} {i = i} {k = k} {v = v} r h = record { did = λ m. goes_end (goes_on (r.goes m) (renamed v [] m (ap (λ xs. require_flags (exprs_of xs) k) (none_left d s end i r.acc h)))) }
 
 pub flags_stop : {d : ℕ} {s : List ℕ} {end : ℕ} {code : Code} {w : Walk} {i k : ℕ} {e : Refusal} → FlagsRest d s end code w i k (std.Err e) → LeftFrom code w (std.Err e)
-flags_stop r = record { did = λ o m. goes_stops (r.goes o m) }
+flags_stop r = record { did = λ m. goes_stops (r.goes m) }
 
 -- 2. The bits
 
@@ -128,16 +128,15 @@ bits_end {d} {s} {end} {all} {i} {bit} r h =
 
 -- 3. The invoke, whose flags are sixteen bits
 
-invoke_cut : (at t l n f v : ℕ) {g : ℕ} {w r : Walk} {o o' : List ℕ} → g ≡ f % 2 ^ 16 → EmittedFrom (invoke at t l n g v) w o r o' → EmittedFrom (invoke at t l n f v) w o r o'
-unfolding record_bytes
-invoke_cut at t l n f v e d = emit_alike (rw (e, bytes_cut f)) refl d
+invoke_cut : {S : Type 0} {K : Sinks S} (at t l n f v : ℕ) {g : ℕ} {w r : Walk} {o o' : S} → g ≡ f % 2 ^ 16 → EmittedFrom K (invoke at t l n g v) w o r o' → EmittedFrom K (invoke at t l n f v) w o r o'
+invoke_cut at t l n f v {g = g} e d = let z : g % 2 ^ 16 ≡ f % 2 ^ 16 = omega (arith, e) in emit_alike (rw z) refl d
 
-module _ (s : List ℕ) (at site exit line flags : ℕ) {g : ℕ} {w r : Walk} {o o' : List ℕ} (e : g ≡ flags % 2 ^ 16) (n : line ≡ number 2 s (at + 8)) where
-  pub invoke_law : (tag value : ℕ) → tag ≡ cond (eqb (get_or s (at + 10) 0) 0) InvokeVirtual InvokeStatic → value ≡ cond (eqb (get_or s (at + 10) 0) 0) (number 4 s (at + 4)) (number 4 s at) → EmittedFrom (invoke site tag exit line g value) w o r o' →
-      EmittedFrom (emit_invoke site (callee_at s at).flags exit (callee_at s at).line flags (callee_at s at).function (callee_at s at).name) w o r o'
+module _ {S : Type 0} {K : Sinks S} (s : List ℕ) (at site exit line flags : ℕ) {g : ℕ} {w r : Walk} {o o' : S} (e : g ≡ flags % 2 ^ 16) (n : line ≡ number 2 s (at + 8)) where
+  pub invoke_law : (tag value : ℕ) → tag ≡ cond (eqb (get_or s (at + 10) 0) 0) InvokeVirtual InvokeStatic → value ≡ cond (eqb (get_or s (at + 10) 0) 0) (number 4 s (at + 4)) (number 4 s at) → EmittedFrom K (invoke site tag exit line g value) w o r o' →
+      EmittedFrom K (emit_invoke site (callee_at s at).flags exit (callee_at s at).line flags (callee_at s at).function (callee_at s at).name) w o r o'
   unfolding emit_invoke callee_at
   invoke_law tag value f h d = rw (← n) (go (get_or s (at + 10) 0) f h)
     where
-      go : (b : ℕ) → tag ≡ cond (eqb b 0) InvokeVirtual InvokeStatic → value ≡ cond (eqb b 0) (number 4 s (at + 4)) (number 4 s at) → EmittedFrom (emit_invoke site b exit line flags (number 4 s at) (number 4 s (at + 4))) w o r o'
+      go : (b : ℕ) → tag ≡ cond (eqb b 0) InvokeVirtual InvokeStatic → value ≡ cond (eqb b 0) (number 4 s (at + 4)) (number 4 s at) → EmittedFrom K (emit_invoke site b exit line flags (number 4 s at) (number 4 s (at + 4))) w o r o'
       go zero f h = invoke_cut site InvokeVirtual exit line flags (number 4 s (at + 4)) e (rw (f, h) at d)
       go (suc b) f h = let z : eqb (suc b) 0 ≡ false = ne_eqb (suc b) 0 (λ y. omega (arith, y)) in invoke_cut site InvokeStatic exit line flags (number 4 s at) e (rw (rw z at f, rw z at h) at d)

@@ -24,67 +24,68 @@ use Rattle.ir.specs.Places.{end_of, ExprAt, RunAt}
 use Rattle.ir.specs.declared.Class.TheVariants.{Expression}
 use Rattle.ir.proofs.Inversion.{expr_at, expr_moves, fill_nil, fill_cons}
 use Rattle.ir.proofs.ExprPlaces.{nop_at, const_at, null_at, new_instance_at, construct_at, assign_at, index_at, dyn_cast_at, local_at, intrinsic_at_law, no_other}
+use Rattle.steps.specs.Running.{Sinks}
 use Rattle.steps.specs.Walked.{Accepted, code_of, list_of, expr_code, fill_code, exprs_from, const_code, construct_code, intrinsic_code, heads, head_of, head_code, makes_labels, parts_from, parts_at, EmittedFrom, LeftFrom, Walk}
-use Rattle.steps.proofs.StepLaws.{none_emitted, halt, both, SameRun, same_assoc, same_right, same_on, same_back, same_code, same_end}
+use Rattle.steps.proofs.StepLaws.{left, none_emitted, halt, both, SameRun, same_assoc, same_right, same_on, same_back, same_code, same_end}
 use Rattle.steps.proofs.RunLaws.{listed}
 
 -- 1. The record
 
 -- its fields by other names
-as_plain : {at t t' n n' v v' : ℕ} {w r : Walk} {o o' : List ℕ} → t ≡ t' → n ≡ n' → v ≡ v' → EmittedFrom (act (emit (plain at t n v))) w o r o' → EmittedFrom (act (emit (plain at t' n' v'))) w o r o'
+as_plain : {S : Type 0} {K : Sinks S} {at t t' n n' v v' : ℕ} {w r : Walk} {o o' : S} → t ≡ t' → n ≡ n' → v ≡ v' → EmittedFrom K (act (emit (plain at t n v))) w o r o' → EmittedFrom K (act (emit (plain at t' n' v'))) w o r o'
 as_plain e f g d = rw (← e, ← f, ← g) d
 
 -- an arm of a kind
-module _ (d : ℕ) (s : List ℕ) (stop at : ℕ) {w r : Walk} {o o' : List ℕ} where
-  of_kind : (k : ℕ) → get_or s (at + 4) 0 ≡ k → EmittedFrom (head_of d s stop at k) w o r o' → EmittedFrom (head_code d s stop at) w o r o'
+module _ {S : Type 0} {K : Sinks S} (d : ℕ) (s : List ℕ) (stop at : ℕ) {w r : Walk} {o o' : S} where
+  of_kind : (k : ℕ) → get_or s (at + 4) 0 ≡ k → EmittedFrom K (head_of d s stop at k) w o r o' → EmittedFrom K (head_code d s stop at) w o r o'
   of_kind k e x = rw e x
 
-  pub nop_head : get_or s (at + 4) 0 ≡ 1 → EmittedFrom (instr at Nop 0) w o r o' → EmittedFrom (head_code d s stop at) w o r o'
+  pub nop_head : get_or s (at + 4) 0 ≡ 1 → EmittedFrom K (instr at Nop 0) w o r o' → EmittedFrom K (head_code d s stop at) w o r o'
   unfolding heads head_of
   nop_head e x = of_kind 1 e x
 
-  pub const_head : get_or s (at + 4) 0 ≡ 2 → EmittedFrom (const_code s at) w o r o' → EmittedFrom (head_code d s stop at) w o r o'
+  pub const_head : get_or s (at + 4) 0 ≡ 2 → EmittedFrom K (const_code s at) w o r o' → EmittedFrom K (head_code d s stop at) w o r o'
   unfolding heads head_of
   const_head e x = of_kind 2 e x
 
-  pub null_head : (t b : ℕ) → get_or s (at + 4) 0 ≡ 3 → t ≡ null_tag b → b ≡ get_or s (at + 5) 0 → EmittedFrom (instr at t 0) w o r o' → EmittedFrom (head_code d s stop at) w o r o'
+  pub null_head : (t b : ℕ) → get_or s (at + 4) 0 ≡ 3 → t ≡ null_tag b → b ≡ get_or s (at + 5) 0 → EmittedFrom K (instr at t 0) w o r o' → EmittedFrom K (head_code d s stop at) w o r o'
   unfolding heads head_of
   null_head t b e f g x = of_kind 3 e (as_plain (f ∙ ap null_tag g) refl refl x)
 
-  pub new_head : (class : ℕ) → get_or s (at + 4) 0 ≡ 4 → class ≡ number 4 s (at + 5) → EmittedFrom (instr at New class) w o r o' → EmittedFrom (head_code d s stop at) w o r o'
+  pub new_head : (class : ℕ) → get_or s (at + 4) 0 ≡ 4 → class ≡ number 4 s (at + 5) → EmittedFrom K (instr at New class) w o r o' → EmittedFrom K (head_code d s stop at) w o r o'
   unfolding heads head_of
   new_head class e f x = of_kind 4 e (as_plain refl refl f x)
 
-  pub construct_head : (end : ℕ) → get_or s (at + 4) 0 ≡ 5 → end ≡ stop → EmittedFrom (construct_code d s end at) w o r o' → EmittedFrom (head_code d s stop at) w o r o'
+  pub construct_head : (end : ℕ) → get_or s (at + 4) 0 ≡ 5 → end ≡ stop → EmittedFrom K (construct_code d s end at) w o r o' → EmittedFrom K (head_code d s stop at) w o r o'
   unfolding heads head_of
   construct_head end e f x = of_kind 5 e (rw (← f) x)
 
-  pub assign_head : get_or s (at + 4) 0 ≡ 6 → EmittedFrom (instr at Assign 0) w o r o' → EmittedFrom (head_code d s stop at) w o r o'
+  pub assign_head : get_or s (at + 4) 0 ≡ 6 → EmittedFrom K (instr at Assign 0) w o r o' → EmittedFrom K (head_code d s stop at) w o r o'
   unfolding heads head_of
   assign_head e x = of_kind 6 e x
 
-  pub index_head : (t b type : ℕ) → get_or s (at + 4) 0 ≡ 8 → t ≡ element_tag b → b ≡ get_or s (at + 5) 0 → type ≡ number 4 s (at + 6) → EmittedFrom (instr at t type) w o r o' → EmittedFrom (head_code d s stop at) w o r o'
+  pub index_head : (t b type : ℕ) → get_or s (at + 4) 0 ≡ 8 → t ≡ element_tag b → b ≡ get_or s (at + 5) 0 → type ≡ number 4 s (at + 6) → EmittedFrom K (instr at t type) w o r o' → EmittedFrom K (head_code d s stop at) w o r o'
   unfolding heads head_of
   index_head t b type e f g h x = of_kind 8 e (as_plain (f ∙ ap element_tag g) refl h x)
 
-  pub cast_head : (weak b class : ℕ) → get_or s (at + 4) 0 ≡ 10 → weak ≡ b → b ≡ get_or s (at + 9) 0 → class ≡ number 4 s (at + 5) → EmittedFrom (act (emit (plain at DynamicCast weak class))) w o r o' → EmittedFrom (head_code d s stop at) w o r o'
+  pub cast_head : (weak b class : ℕ) → get_or s (at + 4) 0 ≡ 10 → weak ≡ b → b ≡ get_or s (at + 9) 0 → class ≡ number 4 s (at + 5) → EmittedFrom K (act (emit (plain at DynamicCast weak class))) w o r o' → EmittedFrom K (head_code d s stop at) w o r o'
   unfolding heads head_of
   cast_head weak b class e f g h x = of_kind 10 e (as_plain refl (f ∙ g) h x)
 
-  pub local_head : (t b i : ℕ) → get_or s (at + 4) 0 ≡ 11 → t ≡ local_tag b → b ≡ get_or s (at + 5) 0 → i ≡ number 4 s (at + 6) → EmittedFrom (instr at t i) w o r o' → EmittedFrom (head_code d s stop at) w o r o'
+  pub local_head : (t b i : ℕ) → get_or s (at + 4) 0 ≡ 11 → t ≡ local_tag b → b ≡ get_or s (at + 5) 0 → i ≡ number 4 s (at + 6) → EmittedFrom K (instr at t i) w o r o' → EmittedFrom K (head_code d s stop at) w o r o'
   unfolding heads head_of
   local_head t b i e f g h x = of_kind 11 e (as_plain (f ∙ ap local_tag g) refl h x)
 
-  pub intrinsic_head : get_or s (at + 4) 0 ≡ 12 → EmittedFrom (intrinsic_code s at) w o r o' → EmittedFrom (head_code d s stop at) w o r o'
+  pub intrinsic_head : get_or s (at + 4) 0 ≡ 12 → EmittedFrom K (intrinsic_code s at) w o r o' → EmittedFrom K (head_code d s stop at) w o r o'
   unfolding heads head_of
   intrinsic_head e x = of_kind 12 e x
 
 -- no record: the kinds whose rules make labels, and a byte that is the number of no kind
-other_head : (d : ℕ) (s : List ℕ) (stop at k : ℕ) {o : List ℕ} {w : Walk} → get_or s (at + 4) 0 ≡ k → head_of d s stop at k ≡ done → EmittedFrom (head_code d s stop at) w o w o
+other_head : {S : Type 0} {K : Sinks S} (d : ℕ) (s : List ℕ) (stop at k : ℕ) {o : S} {w : Walk} → get_or s (at + 4) 0 ≡ k → head_of d s stop at k ≡ done → EmittedFrom K (head_code d s stop at) w o w o
 other_head d s stop at k e h = rw (e, h) none_emitted
 
-pub label_head : (d : ℕ) (s : List ℕ) (stop at : ℕ) {kind : ExprKind} {o : List ℕ} {w : Walk} → kinds.expr_code kind ≡ get_or s (at + 4) 0 →
-    (kind ≡ Field) ⊎ ((kind ≡ Conditional) ⊎ ((kind ≡ FreeCall) ⊎ ((kind ≡ StaticCall) ⊎ ((kind ≡ InstanceCall) ⊎ (kind ≡ ClosureCall))))) → EmittedFrom (head_code d s stop at) w o w o
+pub label_head : {S : Type 0} {K : Sinks S} (d : ℕ) (s : List ℕ) (stop at : ℕ) {kind : ExprKind} {o : S} {w : Walk} → kinds.expr_code kind ≡ get_or s (at + 4) 0 →
+    (kind ≡ Field) ⊎ ((kind ≡ Conditional) ⊎ ((kind ≡ FreeCall) ⊎ ((kind ≡ StaticCall) ⊎ ((kind ≡ InstanceCall) ⊎ (kind ≡ ClosureCall))))) → EmittedFrom K (head_code d s stop at) w o w o
 unfolding heads head_of
 label_head d s stop at e (inl h) = other_head d s stop at 7 (expr_is e h) refl
 label_head d s stop at e (inr (inl h)) = other_head d s stop at 9 (expr_is e h) refl
@@ -93,35 +94,35 @@ label_head d s stop at e (inr (inr (inr (inl h)))) = other_head d s stop at 14 (
 label_head d s stop at e (inr (inr (inr (inr (inl h))))) = other_head d s stop at 15 (expr_is e h) refl
 label_head d s stop at e (inr (inr (inr (inr (inr h))))) = other_head d s stop at 16 (expr_is e h) refl
 
-pub no_head : (d : ℕ) (s : List ℕ) (stop at : ℕ) {o : List ℕ} {w : Walk} → IsUnlisted 16 (get_or s (at + 4) 0) → EmittedFrom (head_code d s stop at) w o w o
+pub no_head : {S : Type 0} {K : Sinks S} (d : ℕ) (s : List ℕ) (stop at : ℕ) {o : S} {w : Walk} → IsUnlisted 16 (get_or s (at + 4) 0) → EmittedFrom K (head_code d s stop at) w o w o
 unfolding heads head_of
 no_head d s stop at (inl e) = other_head d s stop at 0 e refl
 no_head d s stop at (inr l) = other_head d s stop at (get_or s (at + 4) 0) refl (get_or-eq_default (heads d s stop at) done {n = get_or s (at + 4) 0} (omega (arith, l)))
 
 -- of a Construct and of an intrinsic call: the check, then the record
-pub constructed : (d : ℕ) (s : List ℕ) (stop at n class : ℕ) {w v r : Walk} {o o' : List ℕ} → n ≡ length (list_of (exprs_from d s stop (at + 13))) → class ≡ number 4 s (at + 5) →
-    LeftFrom (require (ltb n 256) 12 at n) w v → EmittedFrom (act (emit (plain at Construct n class))) v o r o' → EmittedFrom (construct_code d s stop at) w o r o'
+pub constructed : {S : Type 0} {K : Sinks S} (d : ℕ) (s : List ℕ) (stop at n class : ℕ) {w v r : Walk} {o o' : S} → n ≡ length (list_of (exprs_from d s stop (at + 13))) → class ≡ number 4 s (at + 5) →
+    LeftFrom (require (ltb n 256) 12 at n) w v → EmittedFrom K (act (emit (plain at Construct n class))) v o r o' → EmittedFrom K (construct_code d s stop at) w o r o'
 unfolding construct_code
-constructed d s stop at n class {o = o} e f a b = rw (← e, ← f) (record { did = λ m. both (a.did o m) (b.did m) })
+constructed d s stop at n class {o = o} e f a b = rw (← e, ← f) (record { did = λ m. both (left a) (b.did m) })
 
-pub construct_refused : (d : ℕ) (s : List ℕ) (stop at n : ℕ) {w : Walk} {e : Refusal} {o : List ℕ} → n ≡ length (list_of (exprs_from d s stop (at + 13))) →
-    LeftFrom (require (ltb n 256) 12 at n) w (std.Err e) → EmittedFrom (construct_code d s stop at) w o (std.Err e) o
+pub construct_refused : {S : Type 0} {K : Sinks S} (d : ℕ) (s : List ℕ) (stop at n : ℕ) {w : Walk} {e : Refusal} {o : S} → n ≡ length (list_of (exprs_from d s stop (at + 13))) →
+    LeftFrom (require (ltb n 256) 12 at n) w (std.Err e) → EmittedFrom K (construct_code d s stop at) w o (std.Err e) o
 unfolding construct_code
-construct_refused d s stop at n {o = o} e a = rw (← e) (record { did = λ m. halt (a.did o m) _ })
+construct_refused d s stop at n {o = o} e a = rw (← e) (record { did = λ m. halt (left a) _ })
 
-pub intrinsic_refused : (s : List ℕ) (at code short types : ℕ) (fits : Bool) {w : Walk} {e : Refusal} {o : List ℕ} →
+pub intrinsic_refused : {S : Type 0} {K : Sinks S} (s : List ℕ) (at code short types : ℕ) (fits : Bool) {w : Walk} {e : Refusal} {o : S} →
     code ≡ get_or s (at + 5) 0 → short ≡ get_or s (at + 6) 0 → types ≡ get_or s (at + 7) 0 → fits ≡ (eqb short 0 && eqb types (intrinsic_of code).types) →
-    LeftFrom (require fits 14 at 0) w (std.Err e) → EmittedFrom (intrinsic_code s at) w o (std.Err e) o
+    LeftFrom (require fits 14 at 0) w (std.Err e) → EmittedFrom K (intrinsic_code s at) w o (std.Err e) o
 unfolding intrinsic_code
-intrinsic_refused s at code short types fits {o = o} e f g h a = rw (← e, ← f, ← g, ← h) (record { did = λ m. halt (a.did o m) _ })
+intrinsic_refused s at code short types fits {o = o} e f g h a = rw (← e, ← f, ← g, ← h) (record { did = λ m. halt (left a) _ })
 
-pub intrinsic_did : (s : List ℕ) (at code short types : ℕ) (fits : Bool) (tag small i : ℕ) {w v r : Walk} {o o' : List ℕ} →
+pub intrinsic_did : {S : Type 0} {K : Sinks S} (s : List ℕ) (at code short types : ℕ) (fits : Bool) (tag small i : ℕ) {w v r : Walk} {o o' : S} →
     code ≡ get_or s (at + 5) 0 → short ≡ get_or s (at + 6) 0 → types ≡ get_or s (at + 7) 0 → fits ≡ (eqb short 0 && eqb types (intrinsic_of code).types) →
     tag ≡ (intrinsic_of code).tag → small ≡ (intrinsic_of code).small → i ≡ number 4 s (at + 8) →
-    LeftFrom (require fits 14 at 0) w v → EmittedFrom (act (emit (plain at tag small i))) v o r o' → EmittedFrom (intrinsic_code s at) w o r o'
+    LeftFrom (require fits 14 at 0) w v → EmittedFrom K (act (emit (plain at tag small i))) v o r o' → EmittedFrom K (intrinsic_code s at) w o r o'
 unfolding intrinsic_code
 intrinsic_did s at code short types fits tag small i {o = o} e f g h p q j a b =
-    rw (← e, ← f, ← g, ← j, ← p, ← q, ← h) (record { did = λ m. both (a.did o m) (b.did m) })
+    rw (← e, ← f, ← g, ← j, ← p, ← q, ← h) (record { did = λ m. both (left a) (b.did m) })
 
 -- 2. Where the parts begin
 

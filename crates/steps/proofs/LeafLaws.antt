@@ -8,7 +8,7 @@ use Rattle.definitions.specs.Instr.{plain}
 use Rattle.definitions.specs.Code.{new, emit, act, emits, done, many}
 use Rattle.definitions.specs.Lower.{instr, primitive_default, default_instrs}
 use Rattle.definitions.specs.Answer.{onward}
-use Rattle.steps.specs.Running.{run}
+use Rattle.steps.specs.Running.{Sinks, run, noted}
 use Rattle.std.proofs.Math.Option.{none, some}
 use Rattle.std.specs.Bool.{then_some}
 use mir.Val.{bool_byte}
@@ -120,7 +120,7 @@ typed_is short types k n e f = rw (e, f)
 
 -- 2. Records
 
-pub const_did : {w r : Walk} {o o' : List ℕ} (s : List ℕ) (at b v t : ℕ) → b ≡ get_or s (at + 5) 0 → v ≡ number (get_or const_widths b 0) s (at + 6) → t ≡ const_tag b v → EmittedFrom (instr at t v) w o r o' → EmittedFrom (const_code s at) w o r o'
+pub const_did : {S : Type 0} {K : Sinks S} {w r : Walk} {o o' : S} (s : List ℕ) (at b v t : ℕ) → b ≡ get_or s (at + 5) 0 → v ≡ number (get_or const_widths b 0) s (at + 6) → t ≡ const_tag b v → EmittedFrom K (instr at t v) w o r o' → EmittedFrom K (const_code s at) w o r o'
 unfolding const_code
 const_did s at b v t e f g d = rw (const_code, ← e, ← f, ← g) d
 
@@ -137,43 +137,43 @@ entry_none ts k e = elim (dec_lt k (length ts)) [
   | no h ↦ omega arith
 ]
 
-pub primitive_is : {w r : Walk} {o o' : List ℕ} (at k i v : ℕ) (t : Tag) (z : Option Tag) → z ≡ Some t → option_map byte_of z ≡ slice_get default_tags k → v ≡ cond (ltb k 4) i 0 → EmittedFrom (instr at (byte_of t) v) w o r o' → EmittedFrom (emits (primitive_default at k i)) w o r o'
+pub primitive_is : {S : Type 0} {K : Sinks S} {w r : Walk} {o o' : S} (at k i v : ℕ) (t : Tag) (z : Option Tag) → z ≡ Some t → option_map byte_of z ≡ slice_get default_tags k → v ≡ cond (ltb k 4) i 0 → EmittedFrom K (instr at (byte_of t) v) w o r o' → EmittedFrom K (emits (primitive_default at k i)) w o r o'
 unfolding primitive_default emits default_tags
 primitive_is at k i v t z d e f g = let q = entry_is default_tags k (byte_of t) (rw d at e) in rw (primitive_default, lt-ltb k 17 q.0, ← q.1, ← f) (emitted_both g none_emitted)
 
-pub primitive_none : {w : Walk} {o : List ℕ} (at k i : ℕ) (z : Option Tag) → z ≡ None → option_map byte_of z ≡ slice_get default_tags k → EmittedFrom (emits (primitive_default at k i)) w o w o
+pub primitive_none : {S : Type 0} {K : Sinks S} {w : Walk} {o : S} (at k i : ℕ) (z : Option Tag) → z ≡ None → option_map byte_of z ≡ slice_get default_tags k → EmittedFrom K (emits (primitive_default at k i)) w o w o
 unfolding primitive_default emits default_tags
 primitive_none at k i z d e = rw (primitive_default, le-ltb k 17 (entry_none default_tags k (rw d at e))) none_emitted
 
-pub default_read : {w r : Walk} {o o' : List ℕ} (at l b i : ℕ) {l' b' i' : ℕ} → l ≡ l' → b ≡ b' → i ≡ i' → EmittedFrom (emits (default_instrs at l b i)) w o r o' → EmittedFrom (emits (default_instrs at l' b' i')) w o r o'
+pub default_read : {S : Type 0} {K : Sinks S} {w r : Walk} {o o' : S} (at l b i : ℕ) {l' b' i' : ℕ} → l ≡ l' → b ≡ b' → i ≡ i' → EmittedFrom K (emits (default_instrs at l b i)) w o r o' → EmittedFrom K (emits (default_instrs at l' b' i')) w o r o'
 default_read at l b i e f g d = rw (← e, ← f, ← g) d
 
-pub default_variant : {w : Walk} {o : List ℕ} (at l b i : ℕ) → b ≡ 0 → EmittedFrom (emits (default_instrs at l b i)) w o w o
+pub default_variant : {S : Type 0} {K : Sinks S} {w : Walk} {o : S} (at l b i : ℕ) → b ≡ 0 → EmittedFrom K (emits (default_instrs at l b i)) w o w o
 unfolding default_instrs emits
 default_variant at l b i e = rw e none_emitted
 
-pub default_array : {w v r : Walk} {o o₁ o' : List ℕ} (at l b i : ℕ) → b ≡ 1 → EmittedFrom (instr at ArrayClear i) w o v o₁ → EmittedFrom (instr at Local l) v o₁ r o' → EmittedFrom (emits (default_instrs at l b i)) w o r o'
+pub default_array : {S : Type 0} {K : Sinks S} {w v r : Walk} {o o₁ o' : S} (at l b i : ℕ) → b ≡ 1 → EmittedFrom K (instr at ArrayClear i) w o v o₁ → EmittedFrom K (instr at Local l) v o₁ r o' → EmittedFrom K (emits (default_instrs at l b i)) w o r o'
 unfolding default_instrs emits
 default_array at l b i e x y = rw e (emitted_both x (emitted_both y none_emitted))
 
-module _ {w v u : Walk} {o o₁ o₂ : List ℕ} (at l b i : ℕ) (x : EmittedFrom (instr at Assign 0) w o v o₁) (y : EmittedFrom (instr at Local l) v o₁ u o₂) where
-  pub default_struct : {r : Walk} {o' : List ℕ} → b ≡ 2 → EmittedFrom (instr at Construct i) u o₂ r o' → EmittedFrom (emits (default_instrs at l b i)) w o r o'
+module _ {S : Type 0} {K : Sinks S} {w v u : Walk} {o o₁ o₂ : S} (at l b i : ℕ) (x : EmittedFrom K (instr at Assign 0) w o v o₁) (y : EmittedFrom K (instr at Local l) v o₁ u o₂) where
+  pub default_struct : {r : Walk} {o' : S} → b ≡ 2 → EmittedFrom K (instr at Construct i) u o₂ r o' → EmittedFrom K (emits (default_instrs at l b i)) w o r o'
   unfolding default_instrs emits
   default_struct e z = rw e (emitted_both x (emitted_both y (emitted_both z none_emitted)))
 
-  pub default_other : {r : Walk} {o' : List ℕ} → b ≡ 3 → EmittedFrom (instr at Null 0) u o₂ r o' → EmittedFrom (emits (default_instrs at l b i)) w o r o'
+  pub default_other : {r : Walk} {o' : S} → b ≡ 3 → EmittedFrom K (instr at Null 0) u o₂ r o' → EmittedFrom K (emits (default_instrs at l b i)) w o r o'
   unfolding default_instrs emits
   default_other e z = rw e (emitted_both x (emitted_both y (emitted_both z none_emitted)))
 
-  pub default_enum : {t r : Walk} {o₃ o' : List ℕ} → b ≡ 4 → EmittedFrom (act (emit (plain at I32ToEnum 1 i))) u o₂ t o₃ → EmittedFrom (instr at I8Const 0) t o₃ r o' → EmittedFrom (emits (default_instrs at l b i)) w o r o'
+  pub default_enum : {t r : Walk} {o₃ o' : S} → b ≡ 4 → EmittedFrom K (act (emit (plain at I32ToEnum 1 i))) u o₂ t o₃ → EmittedFrom K (instr at I8Const 0) t o₃ r o' → EmittedFrom K (emits (default_instrs at l b i)) w o r o'
   unfolding default_instrs emits
   default_enum e z a = rw e (emitted_both x (emitted_both y (emitted_both z (emitted_both a none_emitted))))
 
-  pub default_primitive : {r : Walk} {o' : List ℕ} → 5 ≤ b → EmittedFrom (emits (primitive_default at (b - 5) i)) u o₂ r o' → EmittedFrom (emits (default_instrs at l b i)) w o r o'
+  pub default_primitive : {r : Walk} {o' : S} → 5 ≤ b → EmittedFrom K (emits (primitive_default at (b - 5) i)) u o₂ r o' → EmittedFrom K (emits (default_instrs at l b i)) w o r o'
   unfolding default_instrs emits
   default_primitive h z = go b h z
     where
-      go : (b : ℕ) → 5 ≤ b → {r : Walk} {o' : List ℕ} → EmittedFrom (emits (primitive_default at (b - 5) i)) u o₂ r o' → EmittedFrom (emits (default_instrs at l b i)) w o r o'
+      go : (b : ℕ) → 5 ≤ b → {r : Walk} {o' : S} → EmittedFrom K (emits (primitive_default at (b - 5) i)) u o₂ r o' → EmittedFrom K (emits (default_instrs at l b i)) w o r o'
       go (suc (suc (suc (suc (suc n))))) h z = emitted_both x (emitted_both y z)
       go zero h z = absurd (omega arith)
       go (suc zero) h z = absurd (omega arith)
@@ -185,19 +185,19 @@ module _ {w v u : Walk} {o o₁ o₂ : List ℕ} (at l b i : ℕ) (x : EmittedFr
 
 -- `left` of n labels are left
 pub record NewRest (at n : ℕ) (w : Walk) (m : List ℕ) (left : ℕ) (v : Walk) (m' : List ℕ) : Type 0 where
-  pub goes : (o : List ℕ) → onward (ran v o m') (run (many at left done)) ≡ onward (ran w o m) (run (many at n done))
+  pub goes : onward (ran v [] m') (run noted (many at left done)) ≡ onward (ran w [] m) (run noted (many at n done))
   pub marked : length m' ≡ length m
 
-new_on : (at left : ℕ) (v z : Walk) (m m' : List ℕ) → 0 < left → LabelledFrom (act (new at)) v m z m' → (o : List ℕ) →
-    onward (ran z o m') (run (many at (left - 1) done)) ≡ onward (ran v o m) (run (many at left done))
+new_on : (at left : ℕ) (v z : Walk) (m m' : List ℕ) → 0 < left → LabelledFrom (act (new at)) v m z m' →
+    onward (ran z [] m') (run noted (many at (left - 1) done)) ≡ onward (ran v [] m) (run noted (many at left done))
 unfolding many run
-new_on at zero v z m m' h d o = absurd (omega arith)
-new_on at (suc n) v z m m' h d o =
+new_on at zero v z m m' h d = absurd (omega arith)
+new_on at (suc n) v z m m' h d =
     let e : suc n - 1 ≡ n = omega arith in
-    rw e (ap (λ x. onward x (run (many at n done))) (d.did o).same ∙ onward_assoc (ran v o m) (run (act (new at))) (run (many at n done)))
+    rw e (ap (λ x. onward x (run noted (many at n done))) d.did.same ∙ onward_assoc (ran v [] m) (run noted (act (new at))) (run noted (many at n done)))
 
 pub new_next : {at n : ℕ} {w : Walk} {m : List ℕ} {left : ℕ} {v z : Walk} {m₁ m₂ : List ℕ} → NewRest at n w m left v m₁ → 0 < left → LabelledFrom (act (new at)) v m₁ z m₂ → NewRest at n w m (left - 1) z m₂
-new_next {at} {left = left} {v = v} {z = z} {m₁ = m₁} {m₂ = m₂} r h d = record { goes = λ o. new_on at left v z m₁ m₂ h d o ∙ r.goes o; marked = (d.did []).marked ∙ r.marked }
+new_next {at} {left = left} {v = v} {z = z} {m₁ = m₁} {m₂ = m₂} r h d = record { goes = new_on at left v z m₁ m₂ h d ∙ r.goes; marked = d.did.marked ∙ r.marked }
 
 no_many : (at k : ℕ) → k ≡ 0 → many at k done ≡ done
 unfolding many
@@ -205,15 +205,15 @@ no_many at k e = rw e
 
 pub new_stop : {at n : ℕ} {w : Walk} {m : List ℕ} {left : ℕ} {e : Refusal} {m₁ : List ℕ} → NewRest at n w m left (std.Err e) m₁ → LabelledFrom (many at n done) w m (std.Err e) m₁
 unfolding ran onward
-new_stop r = record { did = λ o. record { same = r.goes o; outs = refl; marked = r.marked } }
+new_stop r = record { did = record { same = r.goes; marked = r.marked } }
 
 pub new_end : {at n : ℕ} {w : Walk} {m : List ℕ} {left : ℕ} {v : Walk} {m₁ : List ℕ} → NewRest at n w m left v m₁ → left ≤ 0 → LabelledFrom (many at n done) w m v m₁
 unfolding run
 new_end {at} {left = left} {v = v} {m₁ = m₁} r h = record {
-  did = λ o.
+  did =
       let z : many at left done ≡ done = no_many at left (omega (arith, h)) in
-      let y : onward (ran v o m₁) (run done) ≡ onward _ (run (many at _ done)) = ap (λ c. onward (ran v o m₁) (run c)) (sym z) ∙ r.goes o in
-      record { same = sym (onward_made (ran v o m₁)) ∙ y; outs = refl; marked = r.marked };
+      let y : onward (ran v [] m₁) (run noted done) ≡ onward _ (run noted (many at _ done)) = ap (λ c. onward (ran v [] m₁) (run noted c)) (sym z) ∙ r.goes in
+      record { same = sym (onward_made (ran v [] m₁)) ∙ y; marked = r.marked };
 }
 
 -- the body label of a group that may have ended

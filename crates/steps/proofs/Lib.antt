@@ -1,3 +1,4 @@
+pub mod SinkLaws
 pub mod StepLaws
 pub mod RunLaws
 pub mod LeafLaws

@@ -14,65 +14,64 @@ use Rattle.ir.specs.declared.Class.{Class}
 use Rattle.ir.specs.declared.Class.TheVariants.{Statement, Expression}
 use Rattle.ir.proofs.Wider.{expr_wider, node_wider, fill_on}
 use Rattle.ir.proofs.Inversion.{fill_some, fill_none, fill_nil, fill_cons, expr_at, stmt_at, expr_moves, stmt_moves}
-use Rattle.steps.specs.Running.{run}
+use Rattle.steps.specs.Running.{Sinks, run}
 use Rattle.steps.specs.Walked.{Accepted, code_of, ran, labels_of, lower_of, lower_all, node_code, fill_code, expr_code, exprs_from, args_code, list_of, marks_from, Called, NopsFrom, Ran, Walk}
 use Rattle.laws.proofs.Results.{onward_assoc, onward_made, onward_same}
-use Rattle.steps.proofs.StepLaws.{fresh_same, recode, SameRun, same_assoc, same_right, same_left, same_on, same_back, same_code, same_done, same_end}
+use Rattle.steps.proofs.StepLaws.{fresh_same, recode, SameRun, same_any, same_assoc, same_right, same_left, same_on, same_back, same_code, same_done, same_end}
 
 -- 1. What is left
 
 -- running q from v is what running p from w would be
-pub record Goes (p : Code) (w : Walk) (o m : List ℕ) (q : Code) (v : Walk) (o' m' : List ℕ) : Type 0 where
-  pub same : onward (ran v o' m') (run q) ≡ onward (ran w o m) (run p)
-  pub outs : length o' ≡ length o
+pub record Goes {S : Type 0} (K : Sinks S) (p : Code) (w : Walk) (o : S) (m : List ℕ) (q : Code) (v : Walk) (o' : S) (m' : List ℕ) : Type 0 where
+  pub same : onward (ran v o' m') (run K q) ≡ onward (ran w o m) (run K p)
   pub marked : length m' ≡ length m
 
-pub goes_on : {p q r : Code} {w v z : Walk} {o m o₁ m₁ o₂ m₂ : List ℕ} → Goes p w o m q v o₁ m₁ → Goes q v o₁ m₁ r z o₂ m₂ → Goes p w o m r z o₂ m₂
-goes_on a b = record { same = b.same ∙ a.same; outs = b.outs ∙ a.outs; marked = b.marked ∙ a.marked }
+pub goes_on : {S : Type 0} {K : Sinks S} {p q r : Code} {w v z : Walk} {o : S} {m : List ℕ} {o₁ : S} {m₁ : List ℕ} {o₂ : S} {m₂ : List ℕ} → Goes K p w o m q v o₁ m₁ → Goes K q v o₁ m₁ r z o₂ m₂ → Goes K p w o m r z o₂ m₂
+goes_on a b = record { same = b.same ∙ a.same; marked = b.marked ∙ a.marked }
 
 -- the first of two pieces is done
-pub one_step : {p : Code} (q : Code) {w v : Walk} {o m o' m' : List ℕ} → Ran p w o m v o' m' → Goes (p then q) w o m q v o' m'
+pub one_step : {S : Type 0} {K : Sinks S} {p : Code} (q : Code) {w v : Walk} {o : S} {m : List ℕ} {o' : S} {m' : List ℕ} → Ran K p w o m v o' m' → Goes K (p then q) w o m q v o' m'
 unfolding run
-one_step {p} q {w = w} {o = o} {m = m} d = record { same = ap (λ x. onward x (run q)) d.same ∙ onward_assoc (ran w o m) (run p) (run q); outs = d.outs; marked = d.marked }
+one_step {K = K} {p = p} q {w = w} {o = o} {m = m} d = record { same = ap (λ x. onward x (run K q)) d.same ∙ onward_assoc (ran w o m) (run K p) (run K q); marked = d.marked }
 
 -- a fresh label is made
-pub fresh_step : (at : ℕ) (k : ℕ → Code) (l : ℕ) {w v : Walk} {o m o' m' : List ℕ} → l ≡ labels_of w → Ran (act (new at)) w o m v o' m' → Goes (label at k) w o m (k l) v o' m'
-fresh_step at k l {w = w} {o = o} {m = m} e d = record { same = ap (λ x. onward x (run (k l))) d.same ∙ fresh_same at k w o m l e; outs = d.outs; marked = d.marked }
+pub fresh_step : {S : Type 0} {K : Sinks S} (at : ℕ) (k : ℕ → Code) (l : ℕ) {w v : Walk} {o : S} {m : List ℕ} {o' : S} {m' : List ℕ} → l ≡ labels_of w → Ran K (act (new at)) w o m v o' m' → Goes K (label at k) w o m (k l) v o' m'
+fresh_step {K = K} at k l {w = w} {o = o} {m = m} e d = record { same = ap (λ x. onward x (run K (k l))) d.same ∙ fresh_same K at k w o m l e; marked = d.marked }
 
 -- the same code by another name
-pub renamed : {p p' : Code} (w : Walk) (o m : List ℕ) → p ≡ p' → Goes p w o m p' w o m
-renamed w o m e = record { same = ap (λ c. onward (ran w o m) (run c)) (sym e); outs = refl; marked = refl }
+pub renamed : {S : Type 0} {K : Sinks S} {p p' : Code} (w : Walk) (o : S) (m : List ℕ) → p ≡ p' → Goes K p w o m p' w o m
+renamed {K = K} w o m e = record { same = ap (λ c. onward (ran w o m) (run K c)) (sym e); marked = refl }
 
 -- a code that runs alike
-pub goes_same : {p q : Code} (w : Walk) (o m : List ℕ) → SameRun p q → Goes p w o m q w o m
-goes_same {p} {q} w o m h = record { same = onward_same (ran w o m) (run q) (run p) (λ c _. sym (h.alike c)); outs = refl; marked = refl }
+pub goes_same : {S : Type 0} {K : Sinks S} {p q : Code} (w : Walk) (o : S) (m : List ℕ) → SameRun p q → Goes K p w o m q w o m
+goes_same {K = K} {p = p} {q = q} w o m h = record { same = onward_same (ran w o m) (run K q) (run K p) (λ c _. sym (same_any K h c)); marked = refl }
 
 -- nothing is left
-pub goes_end : {p : Code} {w v : Walk} {o m o' m' : List ℕ} → Goes p w o m done v o' m' → Ran p w o m v o' m'
+pub goes_end : {S : Type 0} {K : Sinks S} {p : Code} {w v : Walk} {o : S} {m : List ℕ} {o' : S} {m' : List ℕ} → Goes K p w o m done v o' m' → Ran K p w o m v o' m'
 unfolding run
-goes_end {v = v} {o' = o'} {m' = m'} g = record { same = sym (onward_made (ran v o' m')) ∙ g.same; outs = g.outs; marked = g.marked }
+goes_end {v = v} {o' = o'} {m' = m'} g = record { same = sym (onward_made (ran v o' m')) ∙ g.same; marked = g.marked }
 
 -- the last piece is done
-pub goes_last : {p q : Code} {w v z : Walk} {o m o₁ m₁ o₂ m₂ : List ℕ} → Goes p w o m q v o₁ m₁ → Ran q v o₁ m₁ z o₂ m₂ → Ran p w o m z o₂ m₂
-goes_last g d = record { same = d.same ∙ g.same; outs = d.outs ∙ g.outs; marked = d.marked ∙ g.marked }
+pub goes_last : {S : Type 0} {K : Sinks S} {p q : Code} {w v z : Walk} {o : S} {m : List ℕ} {o₁ : S} {m₁ : List ℕ} {o₂ : S} {m₂ : List ℕ} → Goes K p w o m q v o₁ m₁ → Ran K q v o₁ m₁ z o₂ m₂ → Ran K p w o m z o₂ m₂
+goes_last g d = record { same = d.same ∙ g.same; marked = d.marked ∙ g.marked }
 
 -- it was refused
-pub goes_stops : {p : Code} {q : Code} {w : Walk} {e : Refusal} {o m o' m' : List ℕ} → Goes p w o m q (std.Err e) o' m' → Ran p w o m (std.Err e) o' m'
+pub goes_stops : {S : Type 0} {K : Sinks S} {p : Code} {q : Code} {w : Walk} {e : Refusal} {o : S} {m : List ℕ} {o' : S} {m' : List ℕ} → Goes K p w o m q (std.Err e) o' m' → Ran K p w o m (std.Err e) o' m'
 unfolding ran onward
-goes_stops g = record { same = g.same; outs = g.outs; marked = g.marked }
+goes_stops g = record { same = g.same; marked = g.marked }
 
 -- 2. The loop
 
 -- at i: items that are read from there, whose code is left
-pub record Rest {A : Type 0} (p : ℕ → Parser A) (rest : List A → Code) (code : Code) (end : ℕ) (w : Walk) (o m : List ℕ) (i : ℕ) (v : Walk) (o' m' : List ℕ) : Type 0 where
+pub record Rest {S : Type 0} (K : Sinks S) {A : Type 0} (p : ℕ → Parser A) (rest : List A → Code) (code : Code) (end : ℕ) (w : Walk) (o : S) (m : List ℕ) (i : ℕ) (v : Walk) (o' : S) (m' : List ℕ) : Type 0 where
   pub list : List A
   pub last : ℕ
   pub reads : filling p end i ≡ ok list last
   pub to : i ≤ end
-  pub goes : Goes code w o m (rest list) v o' m'
+  pub goes : Goes K code w o m (rest list) v o' m'
 
-pub rest_start : {A : Type 0} (p : ℕ → Parser A) (rest : List A → Code) (end at : ℕ) (w : Walk) (o m : List ℕ) → at ≤ end →
-    Accepted (filling p end at) → Rest p rest (code_of rest (filling p end at)) end w o m at w o m
+pub rest_start : {S : Type 0} {K : Sinks S} {A : Type 0} (p : ℕ → Parser A) (rest : List A → Code) (end at : ℕ) (w : Walk) (o : S) (m : List ℕ) → at ≤ end →
+    Accepted (filling p end at) → Rest K p rest (code_of rest (filling p end at)) end w o m at w o m
 unfolding code_of
 rest_start p rest end at w o m h acc = record {
   list = acc.0;
@@ -94,10 +93,10 @@ pub record Turn {A : Type 0} (p : ℕ → Parser A) (end i : ℕ) (list : List A
 pub turn : {A : Type 0} (p : ℕ → Parser A) (end i : ℕ) → ((at : ℕ) (x : A) (n : ℕ) → p end at ≡ ok x n → at < n) → {list : List A} {last : ℕ} → i < end → filling p end i ≡ ok list last → Turn p end i list last
 turn p end i moves h r = let f = fill_some p end moves i h r in record { item = f.0; next = f.1; others = f.2; reads = f.3; whole = f.4; after = f.5 }
 
-module _ {A : Type 0} (p : ℕ → Parser A) (rest rest' : List A → Code) (code : Code) (end : ℕ) (w : Walk) (o m : List ℕ) (i : ℕ) (v : Walk) (o₁ m₁ : List ℕ) (next : ℕ) (v₂ : Walk) (o₂ m₂ : List ℕ) where
+module _ {S : Type 0} {K : Sinks S} {A : Type 0} (p : ℕ → Parser A) (rest rest' : List A → Code) (code : Code) (end : ℕ) (w : Walk) (o : S) (m : List ℕ) (i : ℕ) (v : Walk) (o₁ : S) (m₁ : List ℕ) (next : ℕ) (v₂ : Walk) (o₂ : S) (m₂ : List ℕ) where
   -- a turn: what the walk did for the item leaves the others
-  pub rest_next : (l : Rest p rest code end w o m i v o₁ m₁) (k : Turn p end i l.list l.last) → k.next ≡ next → next ≤ end →
-      Goes (rest (k.item ∷ k.others)) v o₁ m₁ (rest' k.others) v₂ o₂ m₂ → Rest p rest' code end w o m next v₂ o₂ m₂
+  pub rest_next : (l : Rest K p rest code end w o m i v o₁ m₁) (k : Turn p end i l.list l.last) → k.next ≡ next → next ≤ end →
+      Goes K (rest (k.item ∷ k.others)) v o₁ m₁ (rest' k.others) v₂ o₂ m₂ → Rest K p rest' code end w o m next v₂ o₂ m₂
   rest_next l k e h g = record {
     list = k.others;
     last = l.last;
@@ -107,8 +106,8 @@ module _ {A : Type 0} (p : ℕ → Parser A) (rest rest' : List A → Code) (cod
   }
 
 -- the end: no item is left
-pub rest_end : {A : Type 0} (p : ℕ → Parser A) (rest : List A → Code) (code : Code) (end : ℕ) (w : Walk) (o m : List ℕ) (i : ℕ) (v : Walk) (o₁ m₁ : List ℕ) →
-    ((at : ℕ) (x : A) (n : ℕ) → p end at ≡ ok x n → at < n) → end ≤ i → Rest p rest code end w o m i v o₁ m₁ → Goes code w o m (rest []) v o₁ m₁
+pub rest_end : {S : Type 0} {K : Sinks S} {A : Type 0} (p : ℕ → Parser A) (rest : List A → Code) (code : Code) (end : ℕ) (w : Walk) (o : S) (m : List ℕ) (i : ℕ) (v : Walk) (o₁ : S) (m₁ : List ℕ) →
+    ((at : ℕ) (x : A) (n : ℕ) → p end at ≡ ok x n → at < n) → end ≤ i → Rest K p rest code end w o m i v o₁ m₁ → Goes K code w o m (rest []) v o₁ m₁
 rest_end p rest code end w o m i v o₁ m₁ moves h l = goes_on l.goes (renamed v o₁ m₁ (ap rest (fill_none p end moves i h l.reads).0))
 
 -- 3. Nodes of a class
@@ -155,10 +154,10 @@ all_append class span (x ∷ xs) ys =
     same_on (same_code (ap (λ p. p then lower_all class span ys) (all_cons class span x xs)))
     (same_on (same_back (same_assoc _ _ _)) (same_on (same_right _ (all_append class span xs ys)) (same_code (sym (all_cons class span x (xs ++ ys))))))
 
-module _ (class : Class) (d : ℕ) (s : List ℕ) (span : BlockSpan) (code : Code) (end : ℕ) (w : Walk) (o m : List ℕ) (i : ℕ) (v : Walk) (o₁ m₁ : List ℕ) (v₂ : Walk) (o₂ m₂ : List ℕ) where
+module _ {S : Type 0} {K : Sinks S} (class : Class) (d : ℕ) (s : List ℕ) (span : BlockSpan) (code : Code) (end : ℕ) (w : Walk) (o : S) (m : List ℕ) (i : ℕ) (v : Walk) (o₁ : S) (m₁ : List ℕ) (v₂ : Walk) (o₂ : S) (m₂ : List ℕ) where
   -- the node at i, of which the walk did all that comes before its parts, which begin at `first`
-  pub rest_flat : (l : Rest (node_of class d s) (lower_all class span) code end w o m i v o₁ m₁) → i < end → (below stop first : ℕ) (head : Code) → below ≤ d →
-      stop ≡ end_of s i → first ≤ stop → Accepted (filling (node_of class below s) stop first) → SameRun (head then fill_code class below s stop first span) (node_code class d s end i span) → Ran head v o₁ m₁ v₂ o₂ m₂ → Rest (node_of class d s) (lower_all class span) code end w o m first v₂ o₂ m₂
+  pub rest_flat : (l : Rest K (node_of class d s) (lower_all class span) code end w o m i v o₁ m₁) → i < end → (below stop first : ℕ) (head : Code) → below ≤ d →
+      stop ≡ end_of s i → first ≤ stop → Accepted (filling (node_of class below s) stop first) → SameRun (head then fill_code class below s stop first span) (node_code class d s end i span) → Ran K head v o₁ m₁ v₂ o₂ m₂ → Rest K (node_of class d s) (lower_all class span) code end w o m first v₂ o₂ m₂
   unfolding code_of
   rest_flat l h below stop first head b e f parts same did =
       let k = turn (node_of class d s) end i (moves class d s end) h l.reads in
@@ -198,8 +197,8 @@ module _ (d : ℕ) (s : List ℕ) (end at stop : ℕ) (e : stop ≡ end_of s at)
 -- 6. Arguments
 
 -- at i, where the mark of the next parameter is at p, and `left` are left
-pub record ArgsRest (d : ℕ) (s : List ℕ) (end site : ℕ) (code : Code) (w : Walk) (o m : List ℕ) (p left i : ℕ) (v : Walk) (o' m' : List ℕ) : Type 0 where
-  pub rest : Rest (parse_expr d s) (λ xs. lower_args (exprs_of xs) site (marks_from s p left)) code end w o m i v o' m'
+pub record ArgsRest {S : Type 0} (K : Sinks S) (d : ℕ) (s : List ℕ) (end site : ℕ) (code : Code) (w : Walk) (o : S) (m : List ℕ) (p left i : ℕ) (v : Walk) (o' : S) (m' : List ℕ) : Type 0 where
+  pub rest : Rest K (parse_expr d s) (λ xs. lower_args (exprs_of xs) site (marks_from s p left)) code end w o m i v o' m'
   pub room : p + left ≤ i
   pub enough : length (list_of (exprs_from d s end i)) ≤ left
 
@@ -214,23 +213,23 @@ unfolding lower_expr exprs_of marks_from
 args_cons s site p zero x xs h = absurd (omega arith)
 args_cons s site p (suc n) x xs h = let z : suc n - 1 ≡ n = omega arith in rw z
 
-pub args_start : (d : ℕ) (s : List ℕ) (end at site params n : ℕ) (w : Walk) (o m : List ℕ) → at ≤ end → params + n ≤ at → length (list_of (exprs_from d s end at)) ≤ n →
-    Accepted (exprs_from d s end at) → ArgsRest d s end site (args_code d s end at site (marks_from s params n)) w o m params n at w o m
+pub args_start : {S : Type 0} {K : Sinks S} (d : ℕ) (s : List ℕ) (end at site params n : ℕ) (w : Walk) (o : S) (m : List ℕ) → at ≤ end → params + n ≤ at → length (list_of (exprs_from d s end at)) ≤ n →
+    Accepted (exprs_from d s end at) → ArgsRest K d s end site (args_code d s end at site (marks_from s params n)) w o m params n at w o m
 args_start d s end at site params n w o m h r l acc = record { rest = rest_start _ _ _ _ _ _ _ h acc; room = r; enough = l }
 
 pub listed : {A : Type 0} (x : Answer (List A)) (xs : List A) (n : ℕ) → x ≡ ok xs n → list_of x ≡ xs
 unfolding list_of
 listed x xs n e = ap {B = List _} list_of e
 
-module _ {d : ℕ} {s : List ℕ} {end site : ℕ} {code : Code} {w : Walk} {o m : List ℕ} {p left i : ℕ} {v : Walk} {o₁ m₁ : List ℕ} (a : ArgsRest d s end site code w o m p left i v o₁ m₁) (h : i < end) where
+module _ {S : Type 0} {K : Sinks S} {d : ℕ} {s : List ℕ} {end site : ℕ} {code : Code} {w : Walk} {o : S} {m : List ℕ} {p left i : ℕ} {v : Walk} {o₁ : S} {m₁ : List ℕ} (a : ArgsRest K d s end site code w o m p left i v o₁ m₁) (h : i < end) where
   pub args_turn : Turn (parse_expr d s) end i a.rest.list a.rest.last
   args_turn = turn (parse_expr d s) end i (expr_moves d s end) h a.rest.reads
 
   pub args_some : 0 < left
   args_some = let k = args_turn in omega (arith, a.enough, ap length (listed _ _ _ a.rest.reads), ap length k.whole)
 
-  pub args_next : (short next : ℕ) (v₂ : Walk) (o₂ m₂ : List ℕ) → short ≡ get_or s p 0 → next ≡ end_of s i → Ran (lower_arg site short (expr_code d s end i)) v o₁ m₁ v₂ o₂ m₂ →
-      ArgsRest d s end site code w o m (p + 1) (left - 1) next v₂ o₂ m₂
+  pub args_next : (short next : ℕ) (v₂ : Walk) (o₂ : S) (m₂ : List ℕ) → short ≡ get_or s p 0 → next ≡ end_of s i → Ran K (lower_arg site short (expr_code d s end i)) v o₁ m₁ v₂ o₂ m₂ →
+      ArgsRest K d s end site code w o m (p + 1) (left - 1) next v₂ o₂ m₂
   args_next short next v₂ o₂ m₂ e f g =
       let k = args_turn in
       let z = expr_placed d s end i k.reads in
@@ -241,10 +240,10 @@ module _ {d : ℕ} {s : List ℕ} {end site : ℕ} {code : Code} {w : Walk} {o m
         enough = let j : exprs_from d s end next ≡ ok k.others a.rest.last = rw (z.1 ∙ sym f) at k.after in omega (arith, a.enough, ap length (listed _ _ _ a.rest.reads), ap length k.whole, ap length (listed _ _ _ j), args_some);
       }
 
-pub args_end : {d : ℕ} {s : List ℕ} {end site : ℕ} {code : Code} {w : Walk} {o m : List ℕ} {p left i : ℕ} {v : Walk} {o₁ m₁ : List ℕ} {z : Walk} {o₂ : List ℕ} → ArgsRest d s end site code w o m p left i v o₁ m₁ → end ≤ i →
-    NopsFrom site left v o₁ z o₂ → Ran code w o m z o₂ m₁
+pub args_end : {S : Type 0} {K : Sinks S} {d : ℕ} {s : List ℕ} {end site : ℕ} {code : Code} {w : Walk} {o : S} {m : List ℕ} {p left i : ℕ} {v : Walk} {o₁ : S} {m₁ : List ℕ} {z : Walk} {o₂ : S} → ArgsRest K d s end site code w o m p left i v o₁ m₁ → end ≤ i →
+    NopsFrom K site left v o₁ z o₂ → Ran K code w o m z o₂ m₁
 unfolding lower_expr exprs_of
-args_end {d} {s} {end} {p = p} {left = left} {m₁ = m₁} a h n = goes_last (rest_end _ _ _ _ _ _ _ _ _ _ _ (expr_moves d s end) h a.rest) ((n (marks_from s p left) (marks_long s p left)).did m₁)
+args_end {d = d} {s = s} {end = end} {p = p} {left = left} {m₁ = m₁} a h n = goes_last (rest_end _ _ _ _ _ _ _ _ _ _ _ (expr_moves d s end) h a.rest) ((n (marks_from s p left) (marks_long s p left)).did m₁)
 
 -- what a call asks of its arguments
 

@@ -20,41 +20,42 @@ use Rattle.instr.specs.declared.refusals.Reason.TheVariants as reason
 use Rattle.instr.specs.declared.refusals.Refusal.{Refusal}
 use Rattle.instr.specs.Refusals.{number_of}
 use Rattle.std.proofs.lemmas.Result.{err_from_is_err_and}
-use Rattle.steps.specs.Running.{Cells, put, set_made, move, run}
-use Rattle.steps.specs.Counting.{emitted_of, labelled_of, listed, unmarked_at, marked_at}
+use Rattle.steps.specs.Running.{Sinks, Cells, cut, put, set_made, move, run, Note, noted}
+use Rattle.steps.specs.Counting.{emitted_of, labelled_of, unmarked_at, marked_at}
 use Rattle.steps.specs.Walked.{group_label, open_code, mark_if, Made, Opened, MarksIf, after, ran, labels_of, target_of, Ran, EmittedFrom, LabelledFrom, LeftFrom, Walk}
 use Rattle.steps.specs.declared.counters.Counters.{Counters}
+use Rattle.steps.proofs.SinkLaws.{map_cells, carried, pour, from_notes, anywhere}
 
 -- 1. Single steps
 
 -- a walk that has stopped does nothing
-pub stays : (code : Code) (w : Walk) (o m : List ℕ) (n : _) → w ≡ std.Err n → Ran code w o m w o m
+pub stays : {S : Type 0} {K : Sinks S} (code : Code) (w : Walk) (o : S) (m : List ℕ) (n : _) → w ≡ std.Err n → Ran K code w o m w o m
 unfolding ran onward
-stays code w o m n e = rw e (record { same = refl; outs = refl; marked = refl })
+stays code w o m n e = rw e (record { same = refl; marked = refl })
 
-pub emit_stays : (code : Code) (w : Walk) (o : List ℕ) (n : _) → w ≡ std.Err n → EmittedFrom code w o w o
+pub emit_stays : {S : Type 0} {K : Sinks S} (code : Code) (w : Walk) (o : S) (n : _) → w ≡ std.Err n → EmittedFrom K code w o w o
 emit_stays code w o n e = record { did = λ m. stays code w o m n e }
 
 pub label_stays : (code : Code) (w : Walk) (m : List ℕ) (n : _) → w ≡ std.Err n → LabelledFrom code w m w m
-label_stays code w m n e = record { did = λ o. stays code w o m n e }
+label_stays code w m n e = record { did = stays code w [] m n e }
 
-abbrev cells : Counters → List ℕ → List ℕ → Cells
-cells k o m = record { offset = k.offset; labels = k.labels; count = k.count; out = o; marks = m }
+abbrev cells : {S : Type 0} → Counters → S → List ℕ → Cells S
+cells k o m = record { offset = k.offset; labels = k.labels; count = k.count; sink = o; marks = m }
 
 -- an action, of a walk that is going
-acts : (a : Action) (w : Walk) (k : Counters) (o m : List ℕ) (r : Walk) (o' m' : List ℕ) → w ≡ std.Ok k →
-    ran r o' m' ≡ move a (cells k o m) → length o' ≡ length o → length m' ≡ length m → Ran (act a) w o m r o' m'
+acts : {S : Type 0} {K : Sinks S} (a : Action) (w : Walk) (k : Counters) (o : S) (m : List ℕ) (r : Walk) (o' : S) (m' : List ℕ) → w ≡ std.Ok k →
+    ran r o' m' ≡ move K a (cells k o m) → length m' ≡ length m → Ran K (act a) w o m r o' m'
 unfolding ran onward run
-acts a w k o m r o' m' e q u v = rw e (record { same = q; outs = u; marked = v })
+acts a w k o m r o' m' e q v = rw e (record { same = q; marked = v })
 
 -- nothing was to be done
-pub nothing : {w : Walk} {o m : List ℕ} → Ran done w o m w o m
+pub nothing : {S : Type 0} {K : Sinks S} {w : Walk} {o : S} {m : List ℕ} → Ran K done w o m w o m
 unfolding run
-nothing {w = w} {o = o} {m = m} = record { same = sym (onward_made (ran w o m)); outs = refl; marked = refl }
+nothing {w = w} {o = o} {m = m} = record { same = sym (onward_made (ran w o m)); marked = refl }
 
 pub mark_did : (k : Counters) (m : List ℕ) (l : ℕ) (m' : List ℕ) → m' ≡ marked_at k l m → length m' ≡ length m → LabelledFrom (act (mark l)) (std.Ok k) m (std.Ok k) m'
 unfolding ran move
-mark_did k m l m' q u = record { did = λ o. acts _ _ k o m (std.Ok k) o m' refl (rw q) refl u }
+mark_did k m l m' q u = record { did = acts _ _ k [] m (std.Ok k) [] m' refl (rw q) u }
 
 -- below the limit the sum is the definition's
 pub new_made : (at : ℕ) (k d : Counters) (m m' : List ℕ) → k.labels < 65536 → d ≡ labelled_of k → m' ≡ unmarked_at k m → Made at k m (std.Ok k.labels) d m'
@@ -62,19 +63,19 @@ unfolding ran move label_limit checked
 new_made at k d m m' h f q =
     let n : (k.labels + 1) % 2 ^ 32 ≡ k.labels + 1 = omega arith in
     record {
-      did = record { did = λ o. acts _ _ k o m _ o m' refl (rw (f, q, n, move, lt-ltb k.labels 65536 h, checked)) refl (ap length q ∙ simp length-set) };
+      did = record { did = acts _ _ k [] m _ [] m' refl (rw (f, q, n, move, lt-ltb k.labels 65536 h, checked)) (ap length q ∙ simp length-set) };
       number = refl;
       few = h;
     }
 
 pub new_refused : (at : ℕ) (k : Counters) (m : List ℕ) → 65536 ≤ k.labels → Made at k m (std.Err (record { reason = reason.Labels; place = at; extra = 0 })) k m
 unfolding ran move label_limit checked
-new_refused at k m h = record { did = record { did = λ o. acts _ _ k o m _ o m refl (rw (move, le-ltb k.labels 65536 h, checked)) refl refl }; number = tt; few = tt }
+new_refused at k m h = record { did = record { did = acts _ _ k [] m _ [] m refl (rw (move, le-ltb k.labels 65536 h, checked)) refl }; number = tt; few = tt }
 
 -- the label of a group that is open, and of one that is not
 pub group_open : (group : std.Option ℕ) (at : ℕ) (k : Counters) (m : List ℕ) (l : ℕ) → group ≡ std.Some l → Opened group at k m (std.Ok l) k m
 unfolding open_code group_label
-group_open group at k m l e = rw e (record { did = record { did = λ o. nothing }; number = refl })
+group_open group at k m l e = rw e (record { did = record { did = nothing }; number = refl })
 
 pub group_opened : (group : std.Option ℕ) (at : ℕ) (k : Counters) (m : List ℕ) (r : std.Result ℕ _) (d : Counters) (m' : List ℕ) → group ≡ std.None → Made at k m r d m' → Opened group at k m r d m'
 unfolding open_code group_label labels_of
@@ -88,11 +89,11 @@ marks_some (suc n) l k m m' h q u = mark_did k m l m' q u
 
 pub marks_none : (here l : ℕ) (k : Counters) (m : List ℕ) → here ≡ 0 → MarksIf here l k m m
 unfolding mark_if
-marks_none here l k m e = rw e (record { did = λ o. nothing })
+marks_none here l k m e = rw e (record { did = nothing })
 
 pub refuse_did : (k : Counters) (r : reasons.Reason) (p x : ℕ) → LeftFrom (act (refuse (number_of r) p x)) (std.Ok k) (std.Err (record { reason = r; place = p; extra = x }))
 unfolding ran move
-refuse_did k r p x = record { did = λ o m. acts _ _ k o m _ o m refl refl refl refl }
+refuse_did k r p x = record { did = λ m. acts _ _ k [] m _ [] m refl refl refl }
 
 -- a record whose fields are cut to their widths has the same bytes
 pub bytes_cut : (v : ℕ) → bytes 2 (v % 2 ^ 16) ≡ bytes 2 v
@@ -117,25 +118,22 @@ word_cut v =
     let d : (v % 2 ^ 32) / 1 % 256 ≡ v / 1 % 256 = omega arith in
     rw (a, b, c, d)
 
-abbrev cut : Instr → Instr
-cut i = record { tag = i.tag; small = i.small % 2 ^ 8; first = i.first % 2 ^ 16; second = i.second % 2 ^ 16; line = i.line; flags = i.flags; value = i.value; node = i.node % 2 ^ 32 }
-
-put_cut : (o : List ℕ) (k : ℕ) (i : Instr) → put o k (cut i) ≡ put o k i
+pub put_cut : (o : List ℕ) (k : ℕ) (i : Instr) → put o k (cut i) ≡ put o k i
 unfolding put record_bytes
-put_cut o k i = simp (byte_cut i.small, bytes_cut i.first, bytes_cut i.second, word_cut i.node)
+put_cut o k i = simp (byte_cut i.small, bytes_cut i.first, bytes_cut i.second, bytes_cut i.flags, word_cut i.node)
 
--- the counters and the listing after a record
+-- the counters and the sink after a record
 pub emitted_is : (k : Counters) (i : Instr) (size offset count : ℕ) → size ≡ tag_size i.tag → offset ≡ (k.offset + size) % 2 ^ 32 → count ≡ (k.count + 1) % 2 ^ 32 →
     record { offset = offset; labels = k.labels; count = count } ≡ emitted_of k i
 emitted_is k i size offset count g h n = rw (h, n, g, size_is i)
 
-pub put_is : (o : List ℕ) (k : ℕ) (i j : Instr) (o' : List ℕ) → j ≡ cut i → o' ≡ put o k j → o' ≡ put o k i
-put_is o k i j o' q p = rw (p, q, put_cut o k i)
+pub given_is : {S : Type 0} (K : Sinks S) {o o' : S} {x n : ℕ} (i : Instr) {j : Instr} → j ≡ cut i → o' ≡ K o x n j → o' ≡ K o x n (cut i)
+given_is K i q p = rw (p, q)
 
 -- an emitted record, by another name
-pub emit_did : (i : Instr) {k d : Counters} {o o' : List ℕ} {j : Instr} → (d ≡ emitted_of k j) × (o' ≡ listed k j o) → length o' ≡ length o → j ≡ i → EmittedFrom (act (emit i)) (std.Ok k) o (std.Ok d) o'
+pub emit_did : {S : Type 0} {K : Sinks S} (i : Instr) {k d : Counters} {o o' : S} {j : Instr} → (d ≡ emitted_of k j) × (o' ≡ K o k.offset k.count (cut j)) → j ≡ i → EmittedFrom K (act (emit i)) (std.Ok k) o (std.Ok d) o'
 unfolding ran move
-emit_did i {k} {d} {o} {o'} {j} h u e = record { did = λ m. acts _ _ k o m _ o' m refl (rw (h.0, h.1, e)) u refl }
+emit_did i {k = k} {d = d} {o = o} {o' = o'} {j = j} h e = record { did = λ m. acts _ _ k o m _ o' m refl (rw (h.0, h.1, e)) refl }
 
 take_drop_all : (n : ℕ) (l : List ℕ) → take n l ++ drop n l ≡ l
 take_drop_all zero l = refl
@@ -170,67 +168,74 @@ put_in o k i p h e =
 -- 2. Steps in a row
 
 -- the same code by another name
-pub recode : {code code' : Code} {w : Walk} {o m : List ℕ} {r : Walk} {o' m' : List ℕ} → code' ≡ code → Ran code w o m r o' m' → Ran code' w o m r o' m'
-recode e d = record { same = rw e d.same; outs = d.outs; marked = d.marked }
+pub recode : {S : Type 0} {K : Sinks S} {code code' : Code} {w : Walk} {o : S} {m : List ℕ} {r : Walk} {o' : S} {m' : List ℕ} → code' ≡ code → Ran K code w o m r o' m' → Ran K code' w o m r o' m'
+recode e d = record { same = rw e d.same; marked = d.marked }
 
 -- a piece after another
-pub both : {p q : Code} {w : Walk} {o m : List ℕ} {r : Walk} {o' m' : List ℕ} {z : Walk} {o'' m'' : List ℕ} →
-    Ran p w o m r o' m' → Ran q r o' m' z o'' m'' → Ran (p then q) w o m z o'' m''
+pub both : {S : Type 0} {K : Sinks S} {p q : Code} {w : Walk} {o : S} {m : List ℕ} {r : Walk} {o' : S} {m' : List ℕ} {z : Walk} {o'' : S} {m'' : List ℕ} →
+    Ran K p w o m r o' m' → Ran K q r o' m' z o'' m'' → Ran K (p then q) w o m z o'' m''
 unfolding run
-both {p} {q} {w = w} {o = o} {m = m} a b = record {
-  same = b.same ∙ ap (λ x. onward x (run q)) a.same ∙ onward_assoc (ran w o m) (run p) (run q);
-  outs = b.outs ∙ a.outs;
+both {K = K} {p = p} {q = q} {w = w} {o = o} {m = m} a b = record {
+  same = b.same ∙ ap (λ x. onward x (run K q)) a.same ∙ onward_assoc (ran w o m) (run K p) (run K q);
   marked = b.marked ∙ a.marked;
 }
 
-pub fresh_same : (at : ℕ) (k : ℕ → Code) (w : Walk) (o m : List ℕ) (l : ℕ) → l ≡ labels_of w →
-    onward (onward (ran w o m) (run (act (new at)))) (run (k l)) ≡ onward (ran w o m) (run (label at k))
+pub fresh_same : {S : Type 0} (K : Sinks S) (at : ℕ) (k : ℕ → Code) (w : Walk) (o : S) (m : List ℕ) (l : ℕ) → l ≡ labels_of w →
+    onward (onward (ran w o m) (run K (act (new at)))) (run K (k l)) ≡ onward (ran w o m) (run K (label at k))
 unfolding ran onward labels_of run
-fresh_same at k (std.Ok c) o m l e = rw e
-fresh_same at k (std.Err q) o m l e = refl
+fresh_same K at k (std.Ok c) o m l e = rw e
+fresh_same K at k (std.Err q) o m l e = refl
 
 -- a fresh label, and the code that has it
-pub fresh : (at : ℕ) (k : ℕ → Code) {w : Walk} {o m : List ℕ} {l : ℕ} {w₁ : Walk} {o₁ m₁ : List ℕ} {w₂ : Walk} {o₂ m₂ : List ℕ} →
-    l ≡ labels_of w → Ran (act (new at)) w o m w₁ o₁ m₁ → Ran (k l) w₁ o₁ m₁ w₂ o₂ m₂ → Ran (label at k) w o m w₂ o₂ m₂
-fresh at k {w = w} {o = o} {m = m} {l = l} e a b = record {
-  same = b.same ∙ ap (λ x. onward x (run (k l))) a.same ∙ fresh_same at k w o m l e;
-  outs = b.outs ∙ a.outs;
+pub fresh : {S : Type 0} {K : Sinks S} (at : ℕ) (k : ℕ → Code) {w : Walk} {o : S} {m : List ℕ} {l : ℕ} {w₁ : Walk} {o₁ : S} {m₁ : List ℕ} {w₂ : Walk} {o₂ : S} {m₂ : List ℕ} →
+    l ≡ labels_of w → Ran K (act (new at)) w o m w₁ o₁ m₁ → Ran K (k l) w₁ o₁ m₁ w₂ o₂ m₂ → Ran K (label at k) w o m w₂ o₂ m₂
+fresh {K = K} at k {w = w} {o = o} {m = m} {l = l} e a b = record {
+  same = b.same ∙ ap (λ x. onward x (run K (k l))) a.same ∙ fresh_same K at k w o m l e;
   marked = b.marked ∙ a.marked;
 }
 
 -- a refusal, and the code after it
-pub halt : {p : Code} {w : Walk} {o m : List ℕ} {e : Refusal} {o' m' : List ℕ} → Ran p w o m (std.Err e) o' m' → (q : Code) → Ran (p then q) w o m (std.Err e) o' m'
+pub halt : {S : Type 0} {K : Sinks S} {p : Code} {w : Walk} {o : S} {m : List ℕ} {e : Refusal} {o' : S} {m' : List ℕ} → Ran K p w o m (std.Err e) o' m' → (q : Code) → Ran K (p then q) w o m (std.Err e) o' m'
 halt d q = both d (stays q (std.Err _) _ _ _ refl)
 
-pub fresh_halt : (at : ℕ) (k : ℕ → Code) {w : Walk} {o m : List ℕ} {e : Refusal} {o' m' : List ℕ} → Ran (act (new at)) w o m (std.Err e) o' m' → Ran (label at k) w o m (std.Err e) o' m'
+pub fresh_halt : {S : Type 0} {K : Sinks S} (at : ℕ) (k : ℕ → Code) {w : Walk} {o : S} {m : List ℕ} {e : Refusal} {o' : S} {m' : List ℕ} → Ran K (act (new at)) w o m (std.Err e) o' m' → Ran K (label at k) w o m (std.Err e) o' m'
 fresh_halt at k {w = w} d = fresh at k {w = w} refl d (stays (k (labels_of w)) (std.Err _) _ _ _ refl)
 
--- a label that is made, and the code that has it; or that is refused
-pub made : (at : ℕ) (k : ℕ → Code) {c : Counters} {o m : List ℕ} {l : ℕ} {d : Counters} {m₁ : List ℕ} {w₂ : Walk} {o₂ m₂ : List ℕ} →
-    Made at c m (std.Ok l) d m₁ → Ran (k l) (std.Ok d) o m₁ w₂ o₂ m₂ → Ran (label at k) (std.Ok c) o m w₂ o₂ m₂
-unfolding labels_of
-made at k a b = fresh at k a.number (a.did.did _) b
+pub left : {S : Type 0} {K : Sinks S} {code : Code} {w r : Walk} {o : S} {m : List ℕ} → LeftFrom code w r → Ran K code w o m r o m
+left d = anywhere (d.did _)
 
-pub unmade : (at : ℕ) (k : ℕ → Code) {c : Counters} {o m : List ℕ} {e : Refusal} {d : Counters} {m₁ : List ℕ} → Made at c m (std.Err e) d m₁ → Ran (label at k) (std.Ok c) o m (std.Err e) o m₁
-unmade at k a = fresh_halt at k (a.did.did _)
+pub emitted : {S : Type 0} {K : Sinks S} {code : Code} {w r : Walk} {o o' : S} {m : List ℕ} → EmittedFrom K code w o r o' → Ran K code w o m r o' m
+emitted d = d.did _
+
+pub labelled : {S : Type 0} {K : Sinks S} {code : Code} {w r : Walk} {o : S} {m m' : List ℕ} → LabelledFrom code w m r m' → Ran K code w o m r o m'
+labelled d = anywhere d.did
+
+-- a label that is made, and the code that has it; or that is refused
+pub made : {S : Type 0} {K : Sinks S} (at : ℕ) (k : ℕ → Code) {c : Counters} {o : S} {m : List ℕ} {l : ℕ} {d : Counters} {m₁ : List ℕ} {w₂ : Walk} {o₂ : S} {m₂ : List ℕ} →
+    Made at c m (std.Ok l) d m₁ → Ran K (k l) (std.Ok d) o m₁ w₂ o₂ m₂ → Ran K (label at k) (std.Ok c) o m w₂ o₂ m₂
+unfolding labels_of
+made at k a b = fresh at k a.number (labelled a.did) b
+
+pub unmade : {S : Type 0} {K : Sinks S} (at : ℕ) (k : ℕ → Code) {c : Counters} {o : S} {m : List ℕ} {e : Refusal} {d : Counters} {m₁ : List ℕ} → Made at c m (std.Err e) d m₁ → Ran K (label at k) (std.Ok c) o m (std.Err e) o m₁
+unmade at k a = fresh_halt at k (labelled a.did)
 
 pub numbered : {l : ℕ} (c : Counters) → l ≡ c.labels → l ≡ labels_of (std.Ok c)
 unfolding labels_of
 numbered c e = e
 
 -- a label that lands
-pub marked : {k : Counters} {o m : List ℕ} {l : ℕ} {m' : List ℕ} → m' ≡ marked_at k l m → length m' ≡ length m → Ran (act (mark l)) (std.Ok k) o m (std.Ok k) o m'
-marked q u = (mark_did _ _ _ _ q u).did _
+pub marked : {S : Type 0} {K : Sinks S} {k : Counters} {o : S} {m : List ℕ} {l : ℕ} {m' : List ℕ} → m' ≡ marked_at k l m → length m' ≡ length m → Ran K (act (mark l)) (std.Ok k) o m (std.Ok k) o m'
+marked q u = labelled (mark_did _ _ _ _ q u)
 
 -- what a `?` hands on, with whatever counters
 module _ {A : Type 0} (r : std.Result A Refusal) (q : Refusal) (h : std.IsErrAnd r (λ e. e ≡ q)) (k : Counters) where
   handed : after r k ≡ std.Err q
   handed = let p = err_from_is_err_and r h in rw (p.1, p.2)
 
-  pub exit : {code : Code} {w : Walk} {o m : List ℕ} {o' m' : List ℕ} → Ran code w o m (std.Err q) o' m' → Ran code w o m (after r k) o' m'
+  pub exit : {S : Type 0} {K : Sinks S} {code : Code} {w : Walk} {o : S} {m : List ℕ} {o' : S} {m' : List ℕ} → Ran K code w o m (std.Err q) o' m' → Ran K code w o m (after r k) o' m'
   exit d = rw handed d
 
-  pub emit_exit : {code : Code} {w : Walk} {o : List ℕ} {o' : List ℕ} → EmittedFrom code w o (std.Err q) o' → EmittedFrom code w o (after r k) o'
+  pub emit_exit : {S : Type 0} {K : Sinks S} {code : Code} {w : Walk} {o : S} {o' : S} → EmittedFrom K code w o (std.Err q) o' → EmittedFrom K code w o (after r k) o'
   emit_exit d = rw handed d
 
   pub label_exit : {code : Code} {w : Walk} {m : List ℕ} {m' : List ℕ} → LabelledFrom code w m (std.Err q) m' → LabelledFrom code w m (after r k) m'
@@ -239,32 +244,23 @@ module _ {A : Type 0} (r : std.Result A Refusal) (q : Refusal) (h : std.IsErrAnd
   pub left_exit : {code : Code} {w : Walk} → LeftFrom code w (std.Err q) → LeftFrom code w (after r k)
   left_exit d = rw handed d
 
-pub left : {code : Code} {w r : Walk} {o m : List ℕ} → LeftFrom code w r → Ran code w o m r o m
-left d = d.did _ _
-
-pub emitted : {code : Code} {w r : Walk} {o o' m : List ℕ} → EmittedFrom code w o r o' → Ran code w o m r o' m
-emitted d = d.did _
-
-pub labelled : {code : Code} {w r : Walk} {o m m' : List ℕ} → LabelledFrom code w m r m' → Ran code w o m r o m'
-labelled d = d.did _
-
 -- a check
 pub require_passed : (w : Walk) (b : Bool) (n p x : ℕ) → b ≡ true → LeftFrom (require b n p x) w w
 unfolding require
-require_passed w b n p x e = rw e (record { did = λ o m. nothing })
+require_passed w b n p x e = rw e (record { did = λ m. nothing })
 
 pub require_failed : (w r : Walk) (b : Bool) (n p x : ℕ) → b ≡ false → LeftFrom (act (refuse n p x)) w r → LeftFrom (require b n p x) w r
 unfolding require
 require_failed w r b n p x e d = rw e d
 
 -- a jump to a label, and the refusal where there is none
-pub jump_did : {w : Walk} {o : List ℕ} {r : Walk} {o' : List ℕ} (number at : ℕ) (t : std.Option ℕ) (l : ℕ) → t ≡ std.Some l → EmittedFrom (jump at 0x1F l) w o r o' → EmittedFrom (jump_to number at (target_of t)) w o r o'
+pub jump_did : {S : Type 0} {K : Sinks S} {w : Walk} {o : S} {r : Walk} {o' : S} (number at : ℕ) (t : std.Option ℕ) (l : ℕ) → t ≡ std.Some l → EmittedFrom K (jump at 0x1F l) w o r o' → EmittedFrom K (jump_to number at (target_of t)) w o r o'
 unfolding jump_to target_of
 jump_did number at t l e d = rw e d
 
-pub no_jump : {w r : Walk} (o : List ℕ) (number at : ℕ) (t : std.Option ℕ) → t ≡ std.None → LeftFrom (act (refuse number at 0)) w r → EmittedFrom (jump_to number at (target_of t)) w o r o
+pub no_jump : {S : Type 0} {K : Sinks S} {w r : Walk} (o : S) (number at : ℕ) (t : std.Option ℕ) → t ≡ std.None → LeftFrom (act (refuse number at 0)) w r → EmittedFrom K (jump_to number at (target_of t)) w o r o
 unfolding jump_to target_of
-no_jump o number at t e d = rw e (record { did = λ m. d.did o m })
+no_jump o number at t e d = rw e (record { did = λ m. left d })
 
 pub set_out : (m : List ℕ) (l v : ℕ) → length m ≤ l → set m l v ≡ m
 set_out [] l v h = refl
@@ -273,11 +269,11 @@ set_out (x ∷ m) (suc l) v h = ap (λ r. x ∷ r) (set_out m l v (omega arith))
 
 -- leaves
 
-pub weak_none : (at n : ℕ) (w : Walk) (o : List ℕ) → n ≡ 0 → EmittedFrom (weak_to_ref at n) w o w o
+pub weak_none : {S : Type 0} {K : Sinks S} (at n : ℕ) (w : Walk) (o : S) → n ≡ 0 → EmittedFrom K (weak_to_ref at n) w o w o
 unfolding weak_to_ref
 weak_none at n w o e = rw e (record { did = λ m. nothing })
 
-pub weak_some : {w r : Walk} {o o' : List ℕ} (at n : ℕ) → (n ≡ 0 → ⊥) → EmittedFrom (instr at WeakRefToRef 0) w o r o' → EmittedFrom (weak_to_ref at n) w o r o'
+pub weak_some : {S : Type 0} {K : Sinks S} {w r : Walk} {o o' : S} (at n : ℕ) → (n ≡ 0 → ⊥) → EmittedFrom K (instr at WeakRefToRef 0) w o r o' → EmittedFrom K (weak_to_ref at n) w o r o'
 unfolding weak_to_ref
 weak_some at zero h d = absurd (h refl)
 weak_some at (suc n) h d = d
@@ -289,38 +285,36 @@ plain_is at t n v m x row e f g =
     let b : row.value ≡ (row_of t).value = ap (λ (y : definitions.Row). y.value) e in
     rw (f, g, a, b)
 
-pub emitted_both : {p q : Code} {w r z : Walk} {o o' o'' : List ℕ} → EmittedFrom p w o r o' → EmittedFrom q r o' z o'' → EmittedFrom (p then q) w o z o''
+pub emitted_both : {S : Type 0} {K : Sinks S} {p q : Code} {w r z : Walk} {o o' o'' : S} → EmittedFrom K p w o r o' → EmittedFrom K q r o' z o'' → EmittedFrom K (p then q) w o z o''
 emitted_both a b = record { did = λ m. both (a.did m) (b.did m) }
 
--- two records with the same bytes and size are emitted alike
-alike : (i j : Instr) (w : Walk) (o m : List ℕ) → record_bytes j ≡ record_bytes i → tag_size j.tag ≡ tag_size i.tag → onward (ran w o m) (run (act (emit j))) ≡ onward (ran w o m) (run (act (emit i)))
-unfolding ran onward run move put
-alike i j (std.Ok c) o m e f = rw (e, size_is j, size_is i, f)
-alike i j (std.Err q) o m e f = refl
+-- two records that are cut alike, of the same size, are emitted alike
+alike : {S : Type 0} (K : Sinks S) (i j : Instr) (w : Walk) (o : S) (m : List ℕ) → cut j ≡ cut i → tag_size j.tag ≡ tag_size i.tag → onward (ran w o m) (run K (act (emit j))) ≡ onward (ran w o m) (run K (act (emit i)))
+unfolding ran onward run move
+alike K i j (std.Ok c) o m e f = rw (e, size_is j, size_is i, f)
+alike K i j (std.Err q) o m e f = refl
 
-pub emit_alike : {i j : Instr} {w r : Walk} {o o' : List ℕ} → record_bytes j ≡ record_bytes i → tag_size j.tag ≡ tag_size i.tag → EmittedFrom (act (emit j)) w o r o' → EmittedFrom (act (emit i)) w o r o'
-emit_alike {i} {j} {w} {r} {o} {o'} e f d = record { did = λ m. record { same = (d.did m).same ∙ alike i j w o m e f; outs = (d.did m).outs; marked = (d.did m).marked } }
+pub emit_alike : {S : Type 0} {K : Sinks S} {i j : Instr} {w r : Walk} {o o' : S} → cut j ≡ cut i → tag_size j.tag ≡ tag_size i.tag → EmittedFrom K (act (emit j)) w o r o' → EmittedFrom K (act (emit i)) w o r o'
+emit_alike {K = K} {i = i} {j = j} {w = w} {o = o} e f d = record { did = λ m. record { same = (d.did m).same ∙ alike K i j w o m e f; marked = (d.did m).marked } }
 
 -- groups
 
 -- NopsFrom
 
 -- `left` of n are left
-pub record NopsRest (at n : ℕ) (w : Walk) (o : List ℕ) (left : ℕ) (v : Walk) (o' : List ℕ) : Type 0 where
-  pub goes : (ps : List ℕ) → length ps ≡ n → (qs : List ℕ) × (length qs ≡ left) × ((m : List ℕ) → onward (ran v o' m) (run (nops at qs)) ≡ onward (ran w o m) (run (nops at ps)))
-  pub outs : length o' ≡ length o
+pub record NopsRest {S : Type 0} (K : Sinks S) (at n : ℕ) (w : Walk) (o : S) (left : ℕ) (v : Walk) (o' : S) : Type 0 where
+  pub goes : (ps : List ℕ) → length ps ≡ n → (qs : List ℕ) × (length qs ≡ left) × ((m : List ℕ) → onward (ran v o' m) (run K (nops at qs)) ≡ onward (ran w o m) (run K (nops at ps)))
 
-nops_on : (at left : ℕ) (v z : Walk) (o o' : List ℕ) (qs : List ℕ) → 0 < left → length qs ≡ left → EmittedFrom (instr at Nop 0) v o z o' →
-    (rs : List ℕ) × (length rs ≡ left - 1) × ((m : List ℕ) → onward (ran z o' m) (run (nops at rs)) ≡ onward (ran v o m) (run (nops at qs)))
+nops_on : {S : Type 0} {K : Sinks S} (at left : ℕ) (v z : Walk) (o o' : S) (qs : List ℕ) → 0 < left → length qs ≡ left → EmittedFrom K (instr at Nop 0) v o z o' →
+    (rs : List ℕ) × (length rs ≡ left - 1) × ((m : List ℕ) → onward (ran z o' m) (run K (nops at rs)) ≡ onward (ran v o m) (run K (nops at qs)))
 unfolding nops run
-nops_on at left v z o o' [] h e d = absurd (omega (arith, e))
-nops_on at left v z o o' (q ∷ rs) h e d =
-    (rs, omega (arith, e), λ m. ap (λ x. onward x (run (nops at rs))) (d.did m).same ∙ onward_assoc (ran v o m) (run (instr at Nop 0)) (run (nops at rs)))
+nops_on {K = K} at left v z o o' [] h e d = absurd (omega (arith, e))
+nops_on {K = K} at left v z o o' (q ∷ rs) h e d =
+    (rs, omega (arith, e), λ m. ap (λ x. onward x (run K (nops at rs))) (d.did m).same ∙ onward_assoc (ran v o m) (run K (instr at Nop 0)) (run K (nops at rs)))
 
-pub nops_next : {at n : ℕ} {w : Walk} {o : List ℕ} {left : ℕ} {v z : Walk} {o₁ o₂ : List ℕ} → NopsRest at n w o left v o₁ → 0 < left → EmittedFrom (instr at Nop 0) v o₁ z o₂ → NopsRest at n w o (left - 1) z o₂
-nops_next {at} {left = left} {v = v} {z = z} {o₁ = o₁} {o₂ = o₂} r h d = record {
+pub nops_next : {S : Type 0} {K : Sinks S} {at n : ℕ} {w : Walk} {o : S} {left : ℕ} {v z : Walk} {o₁ o₂ : S} → NopsRest K at n w o left v o₁ → 0 < left → EmittedFrom K (instr at Nop 0) v o₁ z o₂ → NopsRest K at n w o (left - 1) z o₂
+nops_next {at = at} {left = left} {v = v} {z = z} {o₁ = o₁} {o₂ = o₂} r h d = record {
   goes = λ ps e. let k = r.goes ps e in let j = nops_on at left v z o₁ o₂ k.0 h k.1 d in (j.0, j.1, λ m. j.2 m ∙ k.2 m);
-  outs = (d.did []).outs ∙ r.outs;
 }
 
 no_nops : (at : ℕ) (qs : List ℕ) → length qs ≡ 0 → nops at qs ≡ done
@@ -328,13 +322,13 @@ unfolding nops
 no_nops at [] e = refl
 no_nops at (q ∷ qs) e = absurd (omega (arith, e))
 
-pub nops_end : {at n : ℕ} {w : Walk} {o : List ℕ} {left : ℕ} {v : Walk} {o₁ : List ℕ} → NopsRest at n w o left v o₁ → left ≤ 0 → (ps : List ℕ) → length ps ≡ n → EmittedFrom (nops at ps) w o v o₁
+pub nops_end : {S : Type 0} {K : Sinks S} {at n : ℕ} {w : Walk} {o : S} {left : ℕ} {v : Walk} {o₁ : S} → NopsRest K at n w o left v o₁ → left ≤ 0 → (ps : List ℕ) → length ps ≡ n → EmittedFrom K (nops at ps) w o v o₁
 unfolding run
-nops_end {at} {v = v} {o₁ = o₁} r h ps e = record {
+nops_end {K = K} {at = at} {v = v} {o₁ = o₁} r h ps e = record {
   did = λ m. let k = r.goes ps e in
       let z : nops at k.0 ≡ done = no_nops at k.0 (omega (arith, k.1)) in
-      let y : onward (ran v o₁ m) (run done) ≡ onward _ (run (nops at ps)) = ap (λ c. onward (ran v o₁ m) (run c)) (sym z) ∙ k.2 m in
-      record { same = sym (onward_made (ran v o₁ m)) ∙ y; outs = r.outs; marked = refl };
+      let y : onward (ran v o₁ m) (run K done) ≡ onward _ (run K (nops at ps)) = ap (λ c. onward (ran v o₁ m) (run K c)) (sym z) ∙ k.2 m in
+      record { same = sym (onward_made (ran v o₁ m)) ∙ y; marked = refl };
 }
 
 pub made_set : (m : List ℕ) (l v n : ℕ) {m' : List ℕ} → l < n → m' ≡ set m l v → m' ≡ set_made m l v n
@@ -345,25 +339,25 @@ pub made_not : (m : List ℕ) (l v n : ℕ) → n ≤ l → m ≡ set_made m l v
 unfolding set_made
 made_not m l v n h = rw (le-ltb l n h)
 
-pub none_emitted : {w : Walk} {o : List ℕ} → EmittedFrom done w o w o
+pub none_emitted : {S : Type 0} {K : Sinks S} {w : Walk} {o : S} → EmittedFrom K done w o w o
 none_emitted = record { did = λ m. nothing }
 
--- 3. Codes that run alike
+-- 3. Codes that run alike: into a sink that notes, and so into any
 
 pub record SameRun (p q : Code) : Type 0 where
-  pub alike : (c : Cells) → run p c ≡ run q c
+  pub alike : (c : Cells (List Note)) → run noted p c ≡ run noted q c
 
 pub same_assoc : (p q r : Code) → SameRun (p then (q then r)) ((p then q) then r)
 unfolding run
-same_assoc p q r = record { alike = λ c. sym (onward_assoc (run p c) (run q) (run r)) }
+same_assoc p q r = record { alike = λ c. sym (onward_assoc (run noted p c) (run noted q) (run noted r)) }
 
 pub same_right : (p : Code) {q q' : Code} → SameRun q q' → SameRun (p then q) (p then q')
 unfolding run
-same_right p {q} {q'} h = record { alike = λ c. onward_same (run p c) (run q) (run q') (λ a _. h.alike a) }
+same_right p {q} {q'} h = record { alike = λ c. onward_same (run noted p c) (run noted q) (run noted q') (λ a _. h.alike a) }
 
 pub same_left : {p p' : Code} → SameRun p p' → (q : Code) → SameRun (p then q) (p' then q)
 unfolding run
-same_left h q = record { alike = λ c. ap (λ x. onward x (run q)) (h.alike c) }
+same_left h q = record { alike = λ c. ap (λ x. onward x (run noted q)) (h.alike c) }
 
 pub same_on : {p q r : Code} → SameRun p q → SameRun q r → SameRun p r
 same_on a b = record { alike = λ c. a.alike c ∙ b.alike c }
@@ -372,7 +366,7 @@ pub same_back : {p q : Code} → SameRun p q → SameRun q p
 same_back a = record { alike = λ c. sym (a.alike c) }
 
 pub same_code : {p q : Code} → p ≡ q → SameRun p q
-same_code e = record { alike = λ c. ap (λ x. run x c) e }
+same_code e = record { alike = λ c. ap (λ x. run noted x c) e }
 
 pub same_done : (p : Code) → SameRun p (done then p)
 unfolding run onward
@@ -380,7 +374,15 @@ same_done p = record { alike = λ c. refl }
 
 pub same_end : (p : Code) → SameRun (p then done) p
 unfolding run
-same_end p = record { alike = λ c. onward_made (run p c) }
+same_end p = record { alike = λ c. onward_made (run noted p c) }
 
-pub rerun : {p q : Code} {w : Walk} {o m : List ℕ} {r : Walk} {o' m' : List ℕ} → SameRun p q → Ran p w o m r o' m' → Ran q w o m r o' m'
-rerun {p} {q} {w = w} {o = o} {m = m} h d = record { same = d.same ∙ onward_same (ran w o m) (run p) (run q) (λ c _. h.alike c); outs = d.outs; marked = d.marked }
+-- into any sink
+pub same_any : {S : Type 0} (K : Sinks S) {p q : Code} → SameRun p q → (c : Cells S) → run K p c ≡ run K q c
+unfolding run pour
+same_any K {p} {q} h c =
+    let z = from_notes K c.sink p (map_cells (λ _. []) c) in
+    let y = from_notes K c.sink q (map_cells (λ _. []) c) in
+    z ∙ ap (λ x. onward x (carried (pour K c.sink))) (h.alike (map_cells (λ _. []) c)) ∙ sym y
+
+pub rerun : {S : Type 0} {K : Sinks S} {p q : Code} {w : Walk} {o : S} {m : List ℕ} {r : Walk} {o' : S} {m' : List ℕ} → SameRun p q → Ran K p w o m r o' m' → Ran K q w o m r o' m'
+rerun {K = K} {p = p} {q = q} {w = w} {o = o} {m = m} h d = record { same = d.same ∙ onward_same (ran w o m) (run K p) (run K q) (λ c _. same_any K h c); marked = d.marked }

@@ -1,8 +1,8 @@
--- What emit, add_label and mark_label make of the counters and of the buffer that they are lent. Sums are modulo 2^32.
+-- What emit, add_label and mark_label make of the counters and of the marks that they are lent. Sums are modulo 2^32.
 use Rattle.std.specs.Prelude.{ℕ, ◌+◌, List, slice_set}
 use Rattle.definitions.specs.Instr.{Instr, size}
 use Rattle.definitions.specs.Code.{unmarked}
-use Rattle.steps.specs.Running.{put, set_made, word}
+use Rattle.steps.specs.Running.{set_made, word}
 use Rattle.steps.specs.declared.counters.Counters.{Counters}
 
 -- the counters after a record, and after a new label
@@ -11,10 +11,6 @@ emitted_of c i = record { offset = word (c.offset + size i); labels = c.labels; 
 
 abbrev pub labelled_of : Counters → Counters
 labelled_of c = record { offset = c.offset; labels = word (c.labels + 1); count = c.count }
-
--- the listing with the next record
-abbrev pub listed : Counters → Instr → (out : List ℕ) → List ℕ
-listed c i out = put out c.count i
 
 -- the table with the next label, and with a label that lands at the offset
 abbrev pub unmarked_at : Counters → (marks : List ℕ) → List ℕ

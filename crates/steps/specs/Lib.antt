@@ -1,3 +1,4 @@
 pub mod Counting
+pub mod Lent
 pub mod Running
 pub mod Walked

@@ -1,4 +1,4 @@
--- What the contracts of the walk cite: the code of what the bytes hold, and what a walk's value and the two buffers say together.
+-- What the contracts of the walk cite: the code of what the bytes hold, and what a walk's value, its sink and its marks say together.
 use Rattle.std.specs.Prelude.{◌≡◌, ℕ, zero, suc, ◌+◌, ◌≤◌, ◌<◌, ◌%◌, ◌^◌, Bool, cond, ◌&&◌, ◌||◌, List, [], ◌∷◌, length, get_or, ◌==◌, ◌≢◌, nat_lt, slice_index, slice_index_or}
 use Rattle.std.proofs.Math.Option.{Option, none, some}
 use Rattle.definitions.specs.Answer.{Answer, ok, refused, Result, made, refusal, onward}
@@ -15,7 +15,7 @@ use Rattle.ir.specs.Class.{TreeOf, node_of}
 use Rattle.ir.specs.Places.{end_of}
 use Rattle.ir.specs.declared.Class.{Class}
 use Rattle.ir.specs.declared.Class.TheVariants.{Statement, Expression}
-use Rattle.steps.specs.Running.{Cells, run}
+use Rattle.steps.specs.Running.{Sinks, Cells, cut, run, noted}
 use Rattle.std.specs.Prelude as std
 use Rattle.instr.specs.declared.records.Record.{Record}
 use Rattle.instr.specs.declared.refusals.Refusal.{Refusal}
@@ -131,7 +131,7 @@ instr_of o = record { tag = o.tag; small = o.small; first = o.first; second = o.
 
 -- the record with each field cut to its width
 abbrev pub Cuts : declared.records.Op.Op → Record → Type 0
-Cuts o r = Values.instr_of r ≡ record { tag = o.tag; small = o.small % 2 ^ 8; first = o.first % 2 ^ 16; second = o.second % 2 ^ 16; line = o.line; flags = o.flags; value = o.value; node = o.node % 2 ^ 32 }
+Cuts o r = Values.instr_of r ≡ cut (instr_of o)
 
 -- where the walk stands: at its counters, or stopped by a refusal, which stays
 abbrev pub Walk : Type 0
@@ -142,8 +142,8 @@ abbrev pub after : {A : Type 0} → std.Result A Refusal → Counters → Walk
 after (std.Ok a) c = std.Ok c
 after (std.Err q) c = std.Err q
 
-unfoldable pub ran : Walk → (out marks : List ℕ) → Result Cells
-ran (std.Ok c) o m = made (record { offset = c.offset; labels = c.labels; count = c.count; out = o; marks = m })
+unfoldable pub ran : {S : Type 0} → Walk → (sink : S) (marks : List ℕ) → Result (Cells S)
+ran (std.Ok c) o m = made (record { offset = c.offset; labels = c.labels; count = c.count; sink = o; marks = m })
 ran (std.Err q) o m = refusal (number_of q.reason) q.place q.extra
 
 -- the labels of a walk; none of one that stopped
@@ -153,29 +153,28 @@ labels_of (std.Err q) = 0
 
 -- 4. What a step did
 
--- the code, run from w and the buffers o, m, gives r and the buffers o', m'
-pub record Ran (code : Code) (w : Walk) (o m : List ℕ) (r : Walk) (o' m' : List ℕ) : Type 0 where
-  pub same : ran r o' m' ≡ onward (ran w o m) (run code)
-  pub outs : length o' ≡ length o
+-- the code, run from w, the sink o and the marks m, gives r, the sink o' and the marks m'; a sink is what K makes of it
+pub record Ran {S : Type 0} (K : Sinks S) (code : Code) (w : Walk) (o : S) (m : List ℕ) (r : Walk) (o' : S) (m' : List ℕ) : Type 0 where
+  pub same : ran r o' m' ≡ onward (ran w o m) (run K code)
   pub marked : length m' ≡ length m
 
--- from the counters c, it answers r and leaves the counters c' and both buffers
-abbrev pub Did : {A : Type 0} → (code : Code) (c : Counters) (o m : List ℕ) (r : std.Result A Refusal) (c' : Counters) (o' m' : List ℕ) → Type 0
-Did code c o m r c' o' m' = Ran code (std.Ok c) o m (after r c') o' m'
+-- from the counters c, it answers r and leaves the counters c', the sink and the marks
+abbrev pub Did : {S A : Type 0} → (K : Sinks S) (code : Code) (c : Counters) (o : S) (m : List ℕ) (r : std.Result A Refusal) (c' : Counters) (o' : S) (m' : List ℕ) → Type 0
+Did K code c o m r c' o' m' = Ran K code (std.Ok c) o m (after r c') o' m'
 
--- whatever the marks: it leaves the counters and the records, and is never refused; or it may be
-pub record EmittedFrom (code : Code) (w : Walk) (o : List ℕ) (r : Walk) (o' : List ℕ) : Type 0 where
-  pub did : (m : List ℕ) → Ran code w o m r o' m
+-- whatever the marks: it leaves the counters and the sink, and is never refused; or it may be
+pub record EmittedFrom {S : Type 0} (K : Sinks S) (code : Code) (w : Walk) (o : S) (r : Walk) (o' : S) : Type 0 where
+  pub did : (m : List ℕ) → Ran K code w o m r o' m
 
-abbrev pub Emitted : (code : Code) (c : Counters) (o : List ℕ) (c' : Counters) (o' : List ℕ) → Type 0
-Emitted code c o c' o' = EmittedFrom code (std.Ok c) o (std.Ok c') o'
+abbrev pub Emitted : {S : Type 0} → (K : Sinks S) (code : Code) (c : Counters) (o : S) (c' : Counters) (o' : S) → Type 0
+Emitted K code c o c' o' = EmittedFrom K code (std.Ok c) o (std.Ok c') o'
 
-abbrev pub Emits : {A : Type 0} → (code : Code) (c : Counters) (o : List ℕ) (r : std.Result A Refusal) (c' : Counters) (o' : List ℕ) → Type 0
-Emits code c o r c' o' = EmittedFrom code (std.Ok c) o (after r c') o'
+abbrev pub Emits : {S A : Type 0} → (K : Sinks S) (code : Code) (c : Counters) (o : S) (r : std.Result A Refusal) (c' : Counters) (o' : S) → Type 0
+Emits K code c o r c' o' = EmittedFrom K code (std.Ok c) o (after r c') o'
 
--- whatever the records: the marks
+-- no record: the marks
 pub record LabelledFrom (code : Code) (w : Walk) (m : List ℕ) (r : Walk) (m' : List ℕ) : Type 0 where
-  pub did : (o : List ℕ) → Ran code w o m r o m'
+  pub did : Ran noted code w [] m r [] m'
 
 abbrev pub Labelled : {A : Type 0} → (code : Code) (c : Counters) (m : List ℕ) (r : std.Result A Refusal) (c' : Counters) (m' : List ℕ) → Type 0
 Labelled code c m r c' m' = LabelledFrom code (std.Ok c) m (after r c') m'
@@ -186,9 +185,9 @@ pub record Made (at : ℕ) (c : Counters) (m : List ℕ) (r : std.Result ℕ Ref
   pub number : std.IfOk r (λ l. l ≡ c.labels)
   pub few : std.IfOk r (λ l. l < 65536)
 
--- whatever both: nothing
+-- no record, and whatever the marks: nothing
 pub record LeftFrom (code : Code) (w r : Walk) : Type 0 where
-  pub did : (o m : List ℕ) → Ran code w o m r o m
+  pub did : (m : List ℕ) → Ran noted code w [] m r [] m
 
 abbrev pub Left : {A : Type 0} → (code : Code) (r : std.Result A Refusal) → Type 0
 Left code r = (c : Counters) → LeftFrom code (std.Ok c) (after r c)
@@ -258,11 +257,11 @@ unfoldable pub element_code : (at local type i : ℕ) → Code
 element_code at l t i = emits (plain at Assign 0 0 ∷ plain at ArrayElement 0 t ∷ plain at Local 0 l ∷ plain at U64Const 0 i ∷ [])
 
 -- a Nop for each of n parameters, whatever their marks
-abbrev pub NopsFrom : (at n : ℕ) (w : Walk) (o : List ℕ) (r : Walk) (o' : List ℕ) → Type 0
-NopsFrom at n w o r o' = (ps : List ℕ) → length ps ≡ n → EmittedFrom (nops at ps) w o r o'
+abbrev pub NopsFrom : {S : Type 0} → (K : Sinks S) (at n : ℕ) (w : Walk) (o : S) (r : Walk) (o' : S) → Type 0
+NopsFrom K at n w o r o' = (ps : List ℕ) → length ps ≡ n → EmittedFrom K (nops at ps) w o r o'
 
-abbrev pub Nops : (at n : ℕ) (c : Counters) (o : List ℕ) (c' : Counters) (o' : List ℕ) → Type 0
-Nops at n c o c' o' = NopsFrom at n (std.Ok c) o (std.Ok c') o'
+abbrev pub Nops : {S : Type 0} → (K : Sinks S) (at n : ℕ) (c : Counters) (o : S) (c' : Counters) (o' : S) → Type 0
+Nops K at n c o c' o' = NopsFrom K at n (std.Ok c) o (std.Ok c') o'
 
 -- a mark, where it is to be made
 unfoldable pub mark_if : (here l : ℕ) → Code

@@ -8,6 +8,7 @@ ghost use Rattle.steps.specs.Walked.{Accepted, list_of, exprs_from, callee_at, a
 use crate::counters::Counters;
 use crate::places::{Nodes, end_of};
 use crate::refusals::require;
+use crate::sinks::Sink;
 use crate::tags::invoke_tag;
 use instr::numbers::{u16_at, u32_at};
 use instr::refusals::{Reason, Refusal};
@@ -76,34 +77,41 @@ impl Nodes<'_> {
     }
 
     // InvokeStatic with the function where any flag bit is set, else InvokeVirtual with the name, for the call at `site`.
-    pub fn emit_invoke(&self, at: usize, site: usize, exit: usize, c: &mut Counters, out: &mut [u8])
+    pub fn emit_invoke<S: Sink>(
+        &self,
+        at: usize,
+        site: usize,
+        exit: usize,
+        c: &mut Counters,
+        sink: &mut S,
+    )
         requires { Called self.now.depth self.now.unit.now self.now.end at }
-        ensures { Emitted (emit_invoke site (callee_at self.now.unit.now at).flags exit (callee_at self.now.unit.now at).line (flags_of (exprs_of (list_of (exprs_from self.now.depth self.now.unit.now self.now.end (args_at self.now.unit.now at)))) 1) (callee_at self.now.unit.now at).function (callee_at self.now.unit.now at).name) c.old out.old c.new out.new }
+        ensures { Emitted S.emitted (emit_invoke site (callee_at self.now.unit.now at).flags exit (callee_at self.now.unit.now at).line (flags_of (exprs_of (list_of (exprs_from self.now.depth self.now.unit.now self.now.end (args_at self.now.unit.now at)))) 1) (callee_at self.now.unit.now at).function (callee_at self.now.unit.now at).name) c.old sink.old c.new sink.new }
     {
         let s = self.unit;
         let flags = self.flags_of(at + 16 + usize::from(s[at + 11]));
         let line = u16_at(s, at + 8);
         let value = invoke_value(s, at);
-        c.invoke(site, invoke_tag(s[at + 10]), exit, line, flags, value, out);
+        c.invoke(site, invoke_tag(s[at + 10]), exit, line, flags, value, sink);
     }
 }
 
 impl Counters {
     // A Nop for each of n parameters that are absent in the call at `site`.
-    pub fn nops(&mut self, site: usize, n: usize, out: &mut [u8])
-        ensures { Nops site n self.old out.old self.new out.new }
+    pub fn nops<S: Sink>(&mut self, site: usize, n: usize, sink: &mut S)
+        ensures { Nops S.emitted site n self.old sink.old self.new sink.new }
     {
         for _i in 0..n {
-            self.plain(site, Tag::Nop, 0, 0, out);
+            self.plain(site, Tag::Nop, 0, 0, sink);
         }
     }
 
     // `weak` is a mark: the definitions take any number.
-    pub fn weak_to_ref(&mut self, at: usize, weak: usize, out: &mut [u8])
-        ensures { Emitted (weak_to_ref at weak) self.old out.old self.new out.new }
+    pub fn weak_to_ref<S: Sink>(&mut self, at: usize, weak: usize, sink: &mut S)
+        ensures { Emitted S.emitted (weak_to_ref at weak) self.old sink.old self.new sink.new }
     {
         if weak != 0 {
-            self.plain(at, Tag::WeakRefToRef, 0, 0, out);
+            self.plain(at, Tag::WeakRefToRef, 0, 0, sink);
         }
     }
 }

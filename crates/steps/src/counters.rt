@@ -1,10 +1,12 @@
-// What the walk counts, the two actions that change it, and the one that reads it. The counters and one buffer are lent.
+// What the walk counts, the two actions that change it, and the one that reads it. The counters and a sink or the marks are lent.
 ghost use Rattle.std.specs.Prelude.{◌≡◌};
-ghost use Rattle.steps.specs.Counting.{emitted_of, labelled_of, listed, unmarked_at, marked_at};
+ghost use Rattle.steps.specs.Counting.{emitted_of, labelled_of, unmarked_at, marked_at};
+ghost use Rattle.steps.specs.Running.{cut};
 ghost use Rattle.steps.specs.Walked.{instr_of};
 
 use crate::labels;
-use crate::records::{Op, put_record};
+use crate::records::Op;
+use crate::sinks::Sink;
 use instr::records::Record;
 use instr::tables;
 
@@ -31,10 +33,10 @@ impl Counters {
     // The next record. Neither sum wraps in the walk of a unit: after every action both are the definition's, far below 2^32 (assemble's
     // unwrapped).
     #[inline(always)]
-    pub fn emit(&mut self, op: Op, out: &mut [u8])
-        ensures { (self.new ≡ emitted_of self.old (instr_of op)) × (out.new ≡ listed self.old (instr_of op) out.old) }
+    pub fn emit<S: Sink>(&mut self, op: Op, sink: &mut S)
+        ensures { (self.new ≡ emitted_of self.old (instr_of op)) × (sink.new ≡ S.emitted sink.old self.old.offset self.old.count (cut (instr_of op))) }
     {
-        put_record(out, self.count, Record::from(op));
+        sink.record(self.offset, self.count, Record::from(op));
         self.offset = self.offset.wrapping_add(u32::from(tables::size_of(op.tag)));
         self.count = self.count.wrapping_add(1);
     }

@@ -8,71 +8,72 @@ use crate::counters::Counters;
 use crate::pieces::constant;
 use crate::places::{Nodes, end_of};
 use crate::refusals::require;
+use crate::sinks::Sink;
 use crate::tags::{element_tag, intrinsic_small, intrinsic_tag, local_tag, null_tag, typed};
 use instr::numbers::{byte_at, u32_at};
 use instr::refusals::{Reason, Refusal};
 use instr::tag::Tag;
 use ir::expr::ExprKind;
 
-pub(crate) fn intrinsic(
+pub(crate) fn intrinsic<S: Sink>(
     s: &[u8],
     at: usize,
     c: &mut Counters,
-    out: &mut [u8],
+    sink: &mut S,
 ) -> Result<(), Refusal>
     requires { (at + 8 ≤ length s.now) × (slice_index s.now (at + 5) < 34) }
-    ensures { Emits (intrinsic_code s.now at) c.old out.old result c.new out.new }
+    ensures { Emits S.emitted (intrinsic_code s.now at) c.old sink.old result c.new sink.new }
 {
     let code = usize::from(s[at + 5]);
     let fits = typed(code, usize::from(s[at + 6]), usize::from(s[at + 7]));
     require(fits, Reason::Intrinsic, at, 0)?;
     let i = u32_at(s, at + 8);
-    c.plain(at, intrinsic_tag(code), intrinsic_small(code), i, out);
+    c.plain(at, intrinsic_tag(code), intrinsic_small(code), i, sink);
     Ok(())
 }
 
 impl Nodes<'_> {
     // Construct, of which these are the arguments.
-    fn construct(&self, at: usize, c: &mut Counters, out: &mut [u8]) -> Result<(), Refusal>
+    fn construct<S: Sink>(&self, at: usize, c: &mut Counters, sink: &mut S) -> Result<(), Refusal>
         requires accepted { Accepted (exprs_from self.now.depth self.now.unit.now self.now.end (at + 13)) }
         requires at_bound { at + 13 ≤ self.now.end }
-        ensures { Emits (construct_code self.now.depth self.now.unit.now self.now.end at) c.old out.old result c.new out.new }
+        ensures { Emits S.emitted (construct_code self.now.depth self.now.unit.now self.now.end at) c.old sink.old result c.new sink.new }
     {
         let n = self.count(at + 13);
         require(n < 256, Reason::Construct, at, n)?;
-        c.plain(at, Tag::Construct, n, u32_at(self.unit, at + 5), out);
+        c.plain(at, Tag::Construct, n, u32_at(self.unit, at + 5), sink);
         Ok(())
     }
 
     // The record of the node at `at`.
-    pub fn head(&self, at: usize, c: &mut Counters, out: &mut [u8]) -> Result<(), Refusal>
+    pub fn head<S: Sink>(&self, at: usize, c: &mut Counters, sink: &mut S) -> Result<(), Refusal>
         requires { Accepted (parse_expr self.now.depth self.now.unit.now self.now.end at) }
-        ensures { Emits (head_code (self.now.depth - 1) self.now.unit.now (end_of self.now.unit.now at) at) c.old out.old result c.new out.new }
+        ensures { Emits S.emitted (head_code (self.now.depth - 1) self.now.unit.now (end_of self.now.unit.now at) at) c.old sink.old result c.new sink.new }
     {
         let s = self.unit;
         let Ok(kind) = ExprKind::try_from(s[at + 4]) else {
             return Ok(());
         };
         match kind {
-            ExprKind::Nop => c.plain(at, Tag::Nop, 0, 0, out),
-            ExprKind::Const => constant(s, at, c, out),
-            ExprKind::Null => c.plain(at, null_tag(byte_at(s, at + 5)), 0, 0, out),
-            ExprKind::NewInstance => c.plain(at, Tag::New, 0, u32_at(s, at + 5), out),
-            ExprKind::Construct => return self.inner(at).construct(at, c, out),
-            ExprKind::Assign => c.plain(at, Tag::Assign, 0, 0, out),
+            ExprKind::Nop => c.plain(at, Tag::Nop, 0, 0, sink),
+            ExprKind::Const => constant(s, at, c, sink),
+            ExprKind::Null => c.plain(at, null_tag(byte_at(s, at + 5)), 0, 0, sink),
+            ExprKind::NewInstance => c.plain(at, Tag::New, 0, u32_at(s, at + 5), sink),
+            ExprKind::Construct => return self.inner(at).construct(at, c, sink),
+            ExprKind::Assign => c.plain(at, Tag::Assign, 0, 0, sink),
             ExprKind::Index => {
                 let t = element_tag(byte_at(s, at + 5));
-                c.plain(at, t, 0, u32_at(s, at + 6), out);
+                c.plain(at, t, 0, u32_at(s, at + 6), sink);
             }
             ExprKind::DynCast => {
                 let weak = usize::from(byte_at(s, at + 9));
-                c.plain(at, Tag::DynamicCast, weak, u32_at(s, at + 5), out);
+                c.plain(at, Tag::DynamicCast, weak, u32_at(s, at + 5), sink);
             }
             ExprKind::Local => {
                 let t = local_tag(byte_at(s, at + 5));
-                c.plain(at, t, 0, u32_at(s, at + 6), out);
+                c.plain(at, t, 0, u32_at(s, at + 6), sink);
             }
-            ExprKind::IntrinsicCall => return intrinsic(s, at, c, out),
+            ExprKind::IntrinsicCall => return intrinsic(s, at, c, sink),
             ExprKind::Field
             | ExprKind::Conditional
             | ExprKind::FreeCall

@@ -9,6 +9,7 @@ pub mod pieces;
 pub mod places;
 pub mod records;
 pub mod refusals;
+pub mod sinks;
 pub mod spans;
 pub mod switches;
 pub mod tags;

@@ -7,6 +7,7 @@ ghost use Rattle.definitions.specs.Lower.{primitive_default, default_instrs, low
 ghost use Rattle.steps.specs.Walked.{Emitted, element_code, const_code};
 
 use crate::counters::Counters;
+use crate::sinks::Sink;
 use crate::tags::const_tag;
 use instr::numbers::{byte_at, u16_at, u32_at, u64_at};
 use instr::tables;
@@ -27,13 +28,13 @@ fn value_at(s: &[u8], at: usize, byte: usize) -> u64
 }
 
 // The constant of the node at `at`.
-pub fn constant(s: &[u8], at: usize, c: &mut Counters, out: &mut [u8])
+pub fn constant<S: Sink>(s: &[u8], at: usize, c: &mut Counters, sink: &mut S)
     requires { (at + 6 ≤ length s.now) × (slice_index s.now (at + 5) < 16) }
-    ensures { Emitted (const_code s.now at) c.old out.old c.new out.new }
+    ensures { Emitted S.emitted (const_code s.now at) c.old sink.old c.new sink.new }
 {
     let byte = usize::from(s[at + 5]);
     let value = value_at(s, at + 6, byte);
-    c.plain(at, const_tag(byte, value), 0, value as usize, out);
+    c.plain(at, const_tag(byte, value), 0, value as usize, sink);
 }
 
 // The first four store the unit's index.
@@ -44,37 +45,37 @@ fn default_index(k: usize, i: usize) -> usize
 }
 
 impl Counters {
-    pub fn returned(&mut self, at: usize, out: &mut [u8])
-        ensures { Emitted (lower_return_nothing at) self.old out.old self.new out.new }
+    pub fn returned<S: Sink>(&mut self, at: usize, sink: &mut S)
+        ensures { Emitted S.emitted (lower_return_nothing at) self.old sink.old self.new sink.new }
     {
-        self.plain(at, Tag::Return, 0, 0, out);
-        self.plain(at, Tag::Nop, 0, 0, out);
+        self.plain(at, Tag::Return, 0, 0, sink);
+        self.plain(at, Tag::Nop, 0, 0, sink);
     }
 
     // What stands before the element number i of the InitArray at `at`.
-    pub fn element(&mut self, at: usize, local: usize, typ: usize, i: usize, out: &mut [u8])
-        ensures { Emitted (element_code at local typ i) self.old out.old self.new out.new }
+    pub fn element<S: Sink>(&mut self, at: usize, local: usize, typ: usize, i: usize, sink: &mut S)
+        ensures { Emitted S.emitted (element_code at local typ i) self.old sink.old self.new sink.new }
     {
-        self.plain(at, Tag::Assign, 0, 0, out);
-        self.plain(at, Tag::ArrayElement, 0, typ, out);
-        self.plain(at, Tag::Local, 0, local, out);
-        self.plain(at, Tag::U64Const, 0, i, out);
+        self.plain(at, Tag::Assign, 0, 0, sink);
+        self.plain(at, Tag::ArrayElement, 0, typ, sink);
+        self.plain(at, Tag::Local, 0, local, sink);
+        self.plain(at, Tag::U64Const, 0, i, sink);
     }
 
     // The value of a primitive's default, k of them after byte 5.
-    pub(crate) fn primitive(&mut self, at: usize, k: usize, i: usize, out: &mut [u8])
-        ensures { Emitted (emits (primitive_default at k i)) self.old out.old self.new out.new }
+    pub(crate) fn primitive<S: Sink>(&mut self, at: usize, k: usize, i: usize, sink: &mut S)
+        ensures { Emitted S.emitted (emits (primitive_default at k i)) self.old sink.old self.new sink.new }
     {
         if let Some(tag) = tables::default_tag(k) {
-            self.plain(at, tag, 0, default_index(k, i), out);
+            self.plain(at, tag, 0, default_index(k, i), sink);
         }
     }
 }
 
 // InitDefault.
-pub fn init_default(s: &[u8], at: usize, c: &mut Counters, out: &mut [u8])
+pub fn init_default<S: Sink>(s: &[u8], at: usize, c: &mut Counters, sink: &mut S)
     requires { (at + 14 ≤ length s.now) × (slice_index s.now (at + 9) < 23) }
-    ensures { Emitted (emits (default_instrs at (number 4 s.now (at + 5)) (slice_index s.now (at + 9)) (number 4 s.now (at + 10)))) c.old out.old c.new out.new }
+    ensures { Emitted S.emitted (emits (default_instrs at (number 4 s.now (at + 5)) (slice_index s.now (at + 9)) (number 4 s.now (at + 10)))) c.old sink.old c.new sink.new }
 {
     let local = u32_at(s, at + 5);
     let byte = usize::from(s[at + 9]);
@@ -83,19 +84,19 @@ pub fn init_default(s: &[u8], at: usize, c: &mut Counters, out: &mut [u8])
         return;
     }
     if byte == 1 {
-        c.plain(at, Tag::ArrayClear, 0, i, out);
-        c.plain(at, Tag::Local, 0, local, out);
+        c.plain(at, Tag::ArrayClear, 0, i, sink);
+        c.plain(at, Tag::Local, 0, local, sink);
         return;
     }
-    c.plain(at, Tag::Assign, 0, 0, out);
-    c.plain(at, Tag::Local, 0, local, out);
+    c.plain(at, Tag::Assign, 0, 0, sink);
+    c.plain(at, Tag::Local, 0, local, sink);
     match byte {
-        2 => c.plain(at, Tag::Construct, 0, i, out),
-        3 => c.plain(at, Tag::Null, 0, 0, out),
+        2 => c.plain(at, Tag::Construct, 0, i, sink),
+        3 => c.plain(at, Tag::Null, 0, 0, sink),
         4 => {
-            c.plain(at, Tag::I32ToEnum, 1, i, out);
-            c.plain(at, Tag::I8Const, 0, 0, out);
+            c.plain(at, Tag::I32ToEnum, 1, i, sink);
+            c.plain(at, Tag::I8Const, 0, 0, sink);
         }
-        _ => c.primitive(at, byte - 5, i, out),
+        _ => c.primitive(at, byte - 5, i, sink),
     }
 }

@@ -9,6 +9,7 @@ ghost use Rattle.steps.specs.Running.{put};
 ghost use Rattle.steps.specs.Walked.{Cuts, Emitted};
 
 use crate::counters::Counters;
+use crate::sinks::Sink;
 use instr::records::Record;
 use instr::tag::Tag;
 use instr::{listings, records};
@@ -82,8 +83,8 @@ fn masked(used: bool, v: usize) -> usize
 // Each takes the place of the node whose rule emits it.
 impl Counters {
     // A record with no label.
-    pub fn plain(&mut self, at: usize, tag: Tag, small: usize, value: usize, out: &mut [u8])
-        ensures { Emitted (act (Action.emit (plain at (byte_of tag) small value))) self.old out.old self.new out.new }
+    pub fn plain<S: Sink>(&mut self, at: usize, tag: Tag, small: usize, value: usize, sink: &mut S)
+        ensures { Emitted S.emitted (act (Action.emit (plain at (byte_of tag) small value))) self.old sink.old self.new sink.new }
     {
         let row = tag.row();
         let op = Op {
@@ -91,44 +92,44 @@ impl Counters {
             value: masked(row.value, value) as u64,
             ..Op::new(tag, at)
         };
-        self.emit(op, out);
+        self.emit(op, sink);
     }
 
     // With one label.
-    pub fn jump(&mut self, at: usize, tag: Tag, to: usize, out: &mut [u8])
-        ensures { Emitted (jump at (byte_of tag) to) self.old out.old self.new out.new }
+    pub fn jump<S: Sink>(&mut self, at: usize, tag: Tag, to: usize, sink: &mut S)
+        ensures { Emitted S.emitted (jump at (byte_of tag) to) self.old sink.old self.new sink.new }
     {
         let op = Op {
             first: to,
             ..Op::new(tag, at)
         };
-        self.emit(op, out);
+        self.emit(op, sink);
     }
 
     // Conditional and SwitchLabel.
-    pub fn jumps(&mut self, at: usize, tag: Tag, first: usize, second: usize, out: &mut [u8])
-        ensures { Emitted (jumps at (byte_of tag) first second) self.old out.old self.new out.new }
+    pub fn jumps<S: Sink>(&mut self, at: usize, tag: Tag, first: usize, second: usize, sink: &mut S)
+        ensures { Emitted S.emitted (jumps at (byte_of tag) first second) self.old sink.old self.new sink.new }
     {
         let op = Op {
             first,
             second,
             ..Op::new(tag, at)
         };
-        self.emit(op, out);
+        self.emit(op, sink);
     }
 
-    pub fn switch(&mut self, at: usize, typ: usize, first: usize, out: &mut [u8])
-        ensures { Emitted (emit_switch at typ first) self.old out.old self.new out.new }
+    pub fn switch<S: Sink>(&mut self, at: usize, typ: usize, first: usize, sink: &mut S)
+        ensures { Emitted S.emitted (emit_switch at typ first) self.old sink.old self.new sink.new }
     {
         let op = Op {
             first,
             value: typ as u64,
             ..Op::new(Tag::Switch, at)
         };
-        self.emit(op, out);
+        self.emit(op, sink);
     }
 
-    pub fn invoke(
+    pub fn invoke<S: Sink>(
         &mut self,
         at: usize,
         tag: Tag,
@@ -136,9 +137,9 @@ impl Counters {
         line: u16,
         flags: u16,
         value: usize,
-        out: &mut [u8],
+        sink: &mut S,
     )
-        ensures { Emitted (invoke at (byte_of tag) exit line flags value) self.old out.old self.new out.new }
+        ensures { Emitted S.emitted (invoke at (byte_of tag) exit line flags value) self.old sink.old self.new sink.new }
     {
         let op = Op {
             first: exit,
@@ -147,6 +148,6 @@ impl Counters {
             value: value as u64,
             ..Op::new(tag, at)
         };
-        self.emit(op, out);
+        self.emit(op, sink);
     }
 }

@@ -4,6 +4,7 @@ ghost use Rattle.instr.specs.Refusals.{number_of};
 ghost use Rattle.steps.specs.Walked.{target_of, Emits, Left};
 
 use crate::counters::Counters;
+use crate::sinks::Sink;
 use instr::refusals::{Reason, Refusal};
 use instr::tag::Tag;
 
@@ -24,19 +25,19 @@ pub fn require(passed: bool, reason: Reason, place: usize, extra: usize) -> Resu
 
 impl Counters {
     // A jump to the target, or the refusal where there is none.
-    pub fn jump_to(
+    pub fn jump_to<S: Sink>(
         &mut self,
         reason: Reason,
         at: usize,
         target: Option<usize>,
-        out: &mut [u8],
+        sink: &mut S,
     ) -> Result<(), Refusal>
-        ensures { Emits (jump_to (number_of reason) at (target_of target)) self.old out.old result self.new out.new }
+        ensures { Emits S.emitted (jump_to (number_of reason) at (target_of target)) self.old sink.old result self.new sink.new }
     {
         let Some(label) = target else {
             return Err(Refusal::at(reason, at));
         };
-        self.jump(at, Tag::Jump, label, out);
+        self.jump(at, Tag::Jump, label, sink);
         Ok(())
     }
 }

@@ -17,7 +17,7 @@ use Rattle.definitions.specs.Lower.{BlockSpan, jump, jumps, lower_branches, lowe
 use Rattle.ir.specs.Places.{end_of}
 use Rattle.ir.proofs.Inversion.{fill_some, fill_none, stmt_moves, expr_moves, expr_at}
 use Rattle.ir.proofs.StmtPlaces.{arm_at, arm_moves}
-use Rattle.steps.specs.Running.{run}
+use Rattle.steps.specs.Running.{Sinks, run}
 use Rattle.steps.specs.Walked.{expr_code, exprs_from, element_code, EmittedFrom, Accepted, arms_from, ran, labels_of, target_of, code_of, arm_code, ending, group_label, open_code, LabelledFrom, Ran, Walk}
 use Rattle.laws.proofs.Results.{onward_made}
 use Rattle.steps.proofs.StepLaws.{labelled, emitted, recode, SameRun, same_assoc, same_right, same_on, same_done}
@@ -28,9 +28,9 @@ use Rattle.walk.proofs.ExprCode.{child}
 -- 1. Steps
 
 -- nothing was done
-pub skip_step : (p : Code) {w v : Walk} {o m o' m' : List ℕ} → Ran done w o m v o' m' → Goes p w o m p v o' m'
+pub skip_step : {S : Type 0} {K : Sinks S} (p : Code) {w v : Walk} {o : S} {m : List ℕ} {o' : S} {m' : List ℕ} → Ran K done w o m v o' m' → Goes K p w o m p v o' m'
 unfolding run
-skip_step p {w = w} {o = o} {m = m} d = record { same = ap (λ x. onward x (run p)) (d.same ∙ onward_made (ran w o m)); outs = d.outs; marked = d.marked }
+skip_step {K = K} p {w = w} {o = o} {m = m} d = record { same = ap (λ x. onward x (run K p)) (d.same ∙ onward_made (ran w o m)); marked = d.marked }
 
 -- 2. A case's end
 
@@ -42,8 +42,8 @@ pub ends_false : (b : Bool) (body : ℕ) (p : Code) → b ≡ false → ending b
 unfolding ending
 ends_false b body p e = rw e
 
-case_tail : (ends : Bool) (j x b r₁ r₂ : Code) (body : ℕ) {w v : Walk} {o m o' m' : List ℕ} → Ran (j then (x then ending ends body b)) w o m v o' m' →
-    Goes (j then (x then cond ends (act (mark body) then (b then r₁)) r₂)) w o m (cond ends r₁ r₂) v o' m'
+case_tail : {S : Type 0} {K : Sinks S} (ends : Bool) (j x b r₁ r₂ : Code) (body : ℕ) {w v : Walk} {o : S} {m : List ℕ} {o' : S} {m' : List ℕ} → Ran K (j then (x then ending ends body b)) w o m v o' m' →
+    Goes K (j then (x then cond ends (act (mark body) then (b then r₁)) r₂)) w o m (cond ends r₁ r₂) v o' m'
 unfolding ending
 case_tail true j x b r₁ r₂ body {w = w} {o = o} {m = m} d =
     goes_on (goes_same w o m (same_on (same_right j (same_on (same_right x (same_assoc (act (mark body)) b r₁)) (same_assoc x (act (mark body) then b) r₁))) (same_assoc j (x then (act (mark body) then b)) r₁))) (one_step r₁ d)
@@ -51,8 +51,8 @@ case_tail false j x b r₁ r₂ body {w = w} {o = o} {m = m} d =
     goes_on (goes_same w o m (same_on (same_right j (same_on (same_right x (same_done r₂)) (same_assoc x done r₂))) (same_assoc j (x then done) r₂))) (one_step r₂ d)
 
 -- the group's body label: that of the group that is open, or a new one
-group_step : (group : (std.Option ℕ)) (site : ℕ) (k : ℕ → Code) (body : ℕ) {v v₁ : Walk} {o m m₁ : List ℕ} → body ≡ group_label group v → LabelledFrom (open_code group site) v m v₁ m₁ →
-    Goes (in_group (target_of group) site k) v o m (k body) v₁ o m₁
+group_step : {S : Type 0} {K : Sinks S} (group : (std.Option ℕ)) (site : ℕ) (k : ℕ → Code) (body : ℕ) {v v₁ : Walk} {o : S} {m m₁ : List ℕ} → body ≡ group_label group v → LabelledFrom (open_code group site) v m v₁ m₁ →
+    Goes K (in_group (target_of group) site k) v o m (k body) v₁ o m₁
 unfolding in_group target_of group_label open_code
 group_step std.None site k body e l = fresh_step site k body e (labelled l)
 group_step (std.Some n) site k body e l = rw e (skip_step (k n) (labelled l))
@@ -107,28 +107,28 @@ group_ends d s end i second third x n others last r e f q =
     (λ h. (fill_none (arm_of d s) end (arm_moves d s end) n h q).0))
 
 -- at i, where the label `next` is to be marked and a group may be open
-pub record CasesRest (d : ℕ) (s : List ℕ) (end site : ℕ) (sc : BlockSpan) (code : Code) (w : Walk) (o m : List ℕ) (next : ℕ) (group : (std.Option ℕ)) (i : ℕ) (v : Walk) (o' m' : List ℕ) : Type 0 where
-  pub rest : Rest (arm_of d s) (λ xs. lower_cases (cases_of xs) site next (target_of group) sc) code end w o m i v o' m'
+pub record CasesRest {S : Type 0} (K : Sinks S) (d : ℕ) (s : List ℕ) (end site : ℕ) (sc : BlockSpan) (code : Code) (w : Walk) (o : S) (m : List ℕ) (next : ℕ) (group : (std.Option ℕ)) (i : ℕ) (v : Walk) (o' : S) (m' : List ℕ) : Type 0 where
+  pub rest : Rest K (arm_of d s) (λ xs. lower_cases (cases_of xs) site next (target_of group) sc) code end w o m i v o' m'
 
-pub cases_start : (d : ℕ) (s : List ℕ) (end at site first : ℕ) (sc : BlockSpan) (group : (std.Option ℕ)) (w : Walk) (o m : List ℕ) → target_of group ≡ none → at ≤ end → Accepted (arms_from d s end at) →
-    CasesRest d s end site sc (code_of (λ xs. lower_cases (cases_of xs) site first none sc) (arms_from d s end at)) w o m first group at w o m
+pub cases_start : {S : Type 0} {K : Sinks S} (d : ℕ) (s : List ℕ) (end at site first : ℕ) (sc : BlockSpan) (group : (std.Option ℕ)) (w : Walk) (o : S) (m : List ℕ) → target_of group ≡ none → at ≤ end → Accepted (arms_from d s end at) →
+    CasesRest K d s end site sc (code_of (λ xs. lower_cases (cases_of xs) site first none sc) (arms_from d s end at)) w o m first group at w o m
 cases_start d s end at site first sc group w o m e h acc =
     record { rest = rw e (rest_start (arm_of d s) (λ xs. lower_cases (cases_of xs) site first none sc) end at w o m h acc) }
 
-module _ {d : ℕ} {s : List ℕ} {end site : ℕ} {sc : BlockSpan} {code : Code} {w : Walk} {o m : List ℕ} {next : ℕ} {group : (std.Option ℕ)} {i : ℕ} {v : Walk} {o₁ m₁ : List ℕ}
-    (r : CasesRest d s end site sc code w o m next group i v o₁ m₁) (h : i < end) where
+module _ {S : Type 0} {K : Sinks S} {d : ℕ} {s : List ℕ} {end site : ℕ} {sc : BlockSpan} {code : Code} {w : Walk} {o : S} {m : List ℕ} {next : ℕ} {group : (std.Option ℕ)} {i : ℕ} {v : Walk} {o₁ : S} {m₁ : List ℕ}
+    (r : CasesRest K d s end site sc code w o m next group i v o₁ m₁) (h : i < end) where
   pub cases_turn : Turn (arm_of d s) end i r.rest.list r.rest.last
   cases_turn = turn (arm_of d s) end i (arm_moves d s end) h r.rest.reads
 
   pub cases_arm : (second third : ℕ) → second ≡ end_of s i → third ≡ end_of s second → ArmHere d s end i second third
   cases_arm second third e f = let k = cases_turn in arm_here d s end i (k.item, k.next, k.reads) second third e f
 
-  pub cases_next : (second third body next' : ℕ) (ends : Bool) (group' : (std.Option ℕ)) (v₁ : Walk) (m₂ : List ℕ) (v₂ : Walk) (m₃ : List ℕ) (v₃ : Walk) (m₄ : List ℕ) (v₄ : Walk) (o₅ m₅ : List ℕ) →
+  pub cases_next : (second third body next' : ℕ) (ends : Bool) (group' : (std.Option ℕ)) (v₁ : Walk) (m₂ : List ℕ) (v₂ : Walk) (m₃ : List ℕ) (v₃ : Walk) (m₄ : List ℕ) (v₄ : Walk) (o₅ : S) (m₅ : List ℕ) →
       second ≡ end_of s i → third ≡ end_of s second → ends ≡ (ltb (second + 4) third || leb end third) → body ≡ group_label group v →
       LabelledFrom (open_code group site) v m₁ v₁ m₂ → LabelledFrom (act (mark next)) v₁ m₂ v₂ m₃ → next' ≡ labels_of v₂ → LabelledFrom (act (new site)) v₂ m₃ v₃ m₄ →
-      Ran (arm_code (λ c b. jumps site SwitchLabel next' body then lower_expr c then ending ends body (lower_block b sc)) d s end i) v₃ o₁ m₄ v₄ o₅ m₅ →
+      Ran K (arm_code (λ c b. jumps site SwitchLabel next' body then lower_expr c then ending ends body (lower_block b sc)) d s end i) v₃ o₁ m₄ v₄ o₅ m₅ →
       target_of group' ≡ cond ends none (some body) →
-      CasesRest d s end site sc code w o m next' group' third v₄ o₅ m₅
+      CasesRest K d s end site sc code w o m next' group' third v₄ o₅ m₅
   cases_next second third body next' ends group' v₁ m₂ v₂ m₃ v₃ m₄ v₄ o₅ m₅ e f g b op mk q nw did gr =
       let k = cases_turn in
       let a = cases_arm second third e f in
@@ -146,10 +146,10 @@ module _ {d : ℕ} {s : List ℕ} {end site : ℕ} {sc : BlockSpan} {code : Code
             (renamed _ _ _ (cases_rest ends k.others site next' body sc (target_of group') gr))))))));
       }
 
-pub cases_end : {d : ℕ} {s : List ℕ} {end site : ℕ} {sc : BlockSpan} {code : Code} {w : Walk} {o m : List ℕ} {next : ℕ} {group : (std.Option ℕ)} {i : ℕ} {v : Walk} {o₁ m₁ : List ℕ} {z : Walk} {m₂ : List ℕ} →
-    CasesRest d s end site sc code w o m next group i v o₁ m₁ → end ≤ i → LabelledFrom (act (mark next)) v m₁ z m₂ → Ran code w o m z o₁ m₂
+pub cases_end : {S : Type 0} {K : Sinks S} {d : ℕ} {s : List ℕ} {end site : ℕ} {sc : BlockSpan} {code : Code} {w : Walk} {o : S} {m : List ℕ} {next : ℕ} {group : (std.Option ℕ)} {i : ℕ} {v : Walk} {o₁ : S} {m₁ : List ℕ} {z : Walk} {m₂ : List ℕ} →
+    CasesRest K d s end site sc code w o m next group i v o₁ m₁ → end ≤ i → LabelledFrom (act (mark next)) v m₁ z m₂ → Ran K code w o m z o₁ m₂
 unfolding lower_stmt cases_of
-cases_end {d} {s} {end} r h k = goes_last (rest_end _ _ _ _ _ _ _ _ _ _ _ (arm_moves d s end) h r.rest) (labelled k)
+cases_end {d = d} {s = s} {end = end} r h k = goes_last (rest_end _ _ _ _ _ _ _ _ _ _ _ (arm_moves d s end) h r.rest) (labelled k)
 
 -- 4. Branches
 
@@ -162,24 +162,24 @@ assoc5 : (a b c d e r : Code) → SameRun (a then (b then (c then (d then (e the
 assoc5 a b c d e r =
     same_on (same_right a (same_on (same_right b (same_on (same_right c (same_assoc d e r)) (same_assoc c (d then e) r))) (same_assoc b (c then (d then e)) r))) (same_assoc a (b then (c then (d then e))) r)
 
-pub record ArmsRest (d : ℕ) (s : List ℕ) (end site exit : ℕ) (sc : BlockSpan) (code : Code) (w : Walk) (o m : List ℕ) (next : ℕ) (i : ℕ) (v : Walk) (o' m' : List ℕ) : Type 0 where
-  pub rest : Rest (arm_of d s) (λ xs. lower_branches (branches_of xs) site next exit sc) code end w o m i v o' m'
+pub record ArmsRest {S : Type 0} (K : Sinks S) (d : ℕ) (s : List ℕ) (end site exit : ℕ) (sc : BlockSpan) (code : Code) (w : Walk) (o : S) (m : List ℕ) (next : ℕ) (i : ℕ) (v : Walk) (o' : S) (m' : List ℕ) : Type 0 where
+  pub rest : Rest K (arm_of d s) (λ xs. lower_branches (branches_of xs) site next exit sc) code end w o m i v o' m'
 
-pub arms_start : (d : ℕ) (s : List ℕ) (end at site first exit : ℕ) (sc : BlockSpan) (w : Walk) (o m : List ℕ) → at ≤ end → Accepted (arms_from d s end at) →
-    ArmsRest d s end site exit sc (code_of (λ xs. lower_branches (branches_of xs) site first exit sc) (arms_from d s end at)) w o m first at w o m
+pub arms_start : {S : Type 0} {K : Sinks S} (d : ℕ) (s : List ℕ) (end at site first exit : ℕ) (sc : BlockSpan) (w : Walk) (o : S) (m : List ℕ) → at ≤ end → Accepted (arms_from d s end at) →
+    ArmsRest K d s end site exit sc (code_of (λ xs. lower_branches (branches_of xs) site first exit sc) (arms_from d s end at)) w o m first at w o m
 arms_start d s end at site first exit sc w o m h acc = record { rest = rest_start (arm_of d s) (λ xs. lower_branches (branches_of xs) site first exit sc) end at w o m h acc }
 
-module _ {d : ℕ} {s : List ℕ} {end site exit : ℕ} {sc : BlockSpan} {code : Code} {w : Walk} {o m : List ℕ} {next i : ℕ} {v : Walk} {o₁ m₁ : List ℕ}
-    (r : ArmsRest d s end site exit sc code w o m next i v o₁ m₁) (h : i < end) where
+module _ {S : Type 0} {K : Sinks S} {d : ℕ} {s : List ℕ} {end site exit : ℕ} {sc : BlockSpan} {code : Code} {w : Walk} {o : S} {m : List ℕ} {next i : ℕ} {v : Walk} {o₁ : S} {m₁ : List ℕ}
+    (r : ArmsRest K d s end site exit sc code w o m next i v o₁ m₁) (h : i < end) where
   pub arms_turn : Turn (arm_of d s) end i r.rest.list r.rest.last
   arms_turn = turn (arm_of d s) end i (arm_moves d s end) h r.rest.reads
 
   pub arms_arm : (second third : ℕ) → second ≡ end_of s i → third ≡ end_of s second → ArmHere d s end i second third
   arms_arm second third e f = let k = arms_turn in arm_here d s end i (k.item, k.next, k.reads) second third e f
 
-  pub arms_next : (second third next' : ℕ) (v₁ : Walk) (o₂ m₂ : List ℕ) (v₂ : Walk) (m₃ : List ℕ) → second ≡ end_of s i → third ≡ end_of s second →
-      Ran (arm_code (λ c b. jump site JumpIfFalse next then lower_expr c then lower_block b sc then jump site Jump exit then act (mark next)) d s end i) v o₁ m₁ v₁ o₂ m₂ →
-      next' ≡ labels_of v₁ → LabelledFrom (act (new site)) v₁ m₂ v₂ m₃ → ArmsRest d s end site exit sc code w o m next' third v₂ o₂ m₃
+  pub arms_next : (second third next' : ℕ) (v₁ : Walk) (o₂ : S) (m₂ : List ℕ) (v₂ : Walk) (m₃ : List ℕ) → second ≡ end_of s i → third ≡ end_of s second →
+      Ran K (arm_code (λ c b. jump site JumpIfFalse next then lower_expr c then lower_block b sc then jump site Jump exit then act (mark next)) d s end i) v o₁ m₁ v₁ o₂ m₂ →
+      next' ≡ labels_of v₁ → LabelledFrom (act (new site)) v₁ m₂ v₂ m₃ → ArmsRest K d s end site exit sc code w o m next' third v₂ o₂ m₃
   arms_next second third next' v₁ o₂ m₂ v₂ m₃ e f did q nw =
       let k = arms_turn in
       let a = arms_arm second third e f in
@@ -192,10 +192,10 @@ module _ {d : ℕ} {s : List ℕ} {end site exit : ℕ} {sc : BlockSpan} {code :
             (fresh_step site _ next' q (labelled nw)))));
       }
 
-pub arms_end : {d : ℕ} {s : List ℕ} {end site exit : ℕ} {sc : BlockSpan} {code : Code} {w : Walk} {o m : List ℕ} {next i : ℕ} {v : Walk} {o₁ m₁ : List ℕ} →
-    ArmsRest d s end site exit sc code w o m next i v o₁ m₁ → end ≤ i → Ran code w o m v o₁ m₁
+pub arms_end : {S : Type 0} {K : Sinks S} {d : ℕ} {s : List ℕ} {end site exit : ℕ} {sc : BlockSpan} {code : Code} {w : Walk} {o : S} {m : List ℕ} {next i : ℕ} {v : Walk} {o₁ : S} {m₁ : List ℕ} →
+    ArmsRest K d s end site exit sc code w o m next i v o₁ m₁ → end ≤ i → Ran K code w o m v o₁ m₁
 unfolding lower_stmt branches_of
-arms_end {d} {s} {end} r h = goes_end (rest_end _ _ _ _ _ _ _ _ _ _ _ (arm_moves d s end) h r.rest)
+arms_end {d = d} {s = s} {end = end} r h = goes_end (rest_end _ _ _ _ _ _ _ _ _ _ _ (arm_moves d s end) h r.rest)
 
 -- 5. The matchers of a switch with a mid default
 
@@ -204,25 +204,25 @@ matcher_cons : (site next body : ℕ) (x : Expr × Block) (xs : List (Expr × Bl
 unfolding lower_stmt cases_of
 matcher_cons site next body x xs = refl
 
-pub record HeadsRest (d : ℕ) (s : List ℕ) (end site : ℕ) (code : Code) (w : Walk) (o m : List ℕ) (next body i : ℕ) (v : Walk) (o' m' : List ℕ) : Type 0 where
-  pub rest : Rest (arm_of d s) (λ xs. lower_matchers (cases_of xs) site next body) code end w o m i v o' m'
+pub record HeadsRest {S : Type 0} (K : Sinks S) (d : ℕ) (s : List ℕ) (end site : ℕ) (code : Code) (w : Walk) (o : S) (m : List ℕ) (next body i : ℕ) (v : Walk) (o' : S) (m' : List ℕ) : Type 0 where
+  pub rest : Rest K (arm_of d s) (λ xs. lower_matchers (cases_of xs) site next body) code end w o m i v o' m'
   pub few : body ≤ 2 ^ 32 + i
 
-pub heads_start : (d : ℕ) (s : List ℕ) (end at site first body : ℕ) (w : Walk) (o m : List ℕ) → at ≤ end → body < 2 ^ 32 → Accepted (arms_from d s end at) →
-    HeadsRest d s end site (code_of (λ cs. lower_matchers (cases_of cs) site first body) (arms_from d s end at)) w o m first body at w o m
+pub heads_start : {S : Type 0} {K : Sinks S} (d : ℕ) (s : List ℕ) (end at site first body : ℕ) (w : Walk) (o : S) (m : List ℕ) → at ≤ end → body < 2 ^ 32 → Accepted (arms_from d s end at) →
+    HeadsRest K d s end site (code_of (λ cs. lower_matchers (cases_of cs) site first body) (arms_from d s end at)) w o m first body at w o m
 heads_start d s end at site first body w o m h l acc = record { rest = rest_start (arm_of d s) (λ xs. lower_matchers (cases_of xs) site first body) end at w o m h acc; few = omega arith }
 
-module _ {d : ℕ} {s : List ℕ} {end site : ℕ} {code : Code} {w : Walk} {o m : List ℕ} {next body i : ℕ} {v : Walk} {o₁ m₁ : List ℕ}
-    (r : HeadsRest d s end site code w o m next body i v o₁ m₁) (h : i < end) where
+module _ {S : Type 0} {K : Sinks S} {d : ℕ} {s : List ℕ} {end site : ℕ} {code : Code} {w : Walk} {o : S} {m : List ℕ} {next body i : ℕ} {v : Walk} {o₁ : S} {m₁ : List ℕ}
+    (r : HeadsRest K d s end site code w o m next body i v o₁ m₁) (h : i < end) where
   pub heads_turn : Turn (arm_of d s) end i r.rest.list r.rest.last
   heads_turn = turn (arm_of d s) end i (arm_moves d s end) h r.rest.reads
 
   pub heads_arm : (second third : ℕ) → second ≡ end_of s i → third ≡ end_of s second → ArmHere d s end i second third
   heads_arm second third e f = let k = heads_turn in arm_here d s end i (k.item, k.next, k.reads) second third e f
 
-  pub heads_next : (second third next' : ℕ) (v₁ : Walk) (m₂ : List ℕ) (v₂ : Walk) (m₃ : List ℕ) (v₃ : Walk) (o₃ : List ℕ) (v₄ : Walk) (o₄ m₄ : List ℕ) → second ≡ end_of s i → third ≡ end_of s second →
-      LabelledFrom (act (mark next)) v m₁ v₁ m₂ → next' ≡ labels_of v₁ → LabelledFrom (act (new site)) v₁ m₂ v₂ m₃ → EmittedFrom (jumps site SwitchLabel next' body) v₂ o₁ v₃ o₃ → Ran (expr_code d s end i) v₃ o₃ m₃ v₄ o₄ m₄ →
-      HeadsRest d s end site code w o m next' (body + 1) third v₄ o₄ m₄
+  pub heads_next : (second third next' : ℕ) (v₁ : Walk) (m₂ : List ℕ) (v₂ : Walk) (m₃ : List ℕ) (v₃ : Walk) (o₃ : S) (v₄ : Walk) (o₄ : S) (m₄ : List ℕ) → second ≡ end_of s i → third ≡ end_of s second →
+      LabelledFrom (act (mark next)) v m₁ v₁ m₂ → next' ≡ labels_of v₁ → LabelledFrom (act (new site)) v₁ m₂ v₂ m₃ → EmittedFrom K (jumps site SwitchLabel next' body) v₂ o₁ v₃ o₃ → Ran K (expr_code d s end i) v₃ o₃ m₃ v₄ o₄ m₄ →
+      HeadsRest K d s end site code w o m next' (body + 1) third v₄ o₄ m₄
   heads_next second third next' v₁ m₂ v₂ m₃ v₃ o₃ v₄ o₄ m₄ e f mk q nw j did =
       let k = heads_turn in
       let a = heads_arm second third e f in
@@ -237,10 +237,10 @@ module _ {d : ℕ} {s : List ℕ} {end site : ℕ} {code : Code} {w : Walk} {o m
         few = omega (arith, r.few, a.one.head, a.fits);
       }
 
-pub heads_end : {d : ℕ} {s : List ℕ} {end site : ℕ} {code : Code} {w : Walk} {o m : List ℕ} {next body i : ℕ} {v : Walk} {o₁ m₁ : List ℕ} {z : Walk} {m₂ : List ℕ} →
-    HeadsRest d s end site code w o m next body i v o₁ m₁ → end ≤ i → LabelledFrom (act (mark next)) v m₁ z m₂ → Ran code w o m z o₁ m₂
+pub heads_end : {S : Type 0} {K : Sinks S} {d : ℕ} {s : List ℕ} {end site : ℕ} {code : Code} {w : Walk} {o : S} {m : List ℕ} {next body i : ℕ} {v : Walk} {o₁ : S} {m₁ : List ℕ} {z : Walk} {m₂ : List ℕ} →
+    HeadsRest K d s end site code w o m next body i v o₁ m₁ → end ≤ i → LabelledFrom (act (mark next)) v m₁ z m₂ → Ran K code w o m z o₁ m₂
 unfolding lower_stmt cases_of
-heads_end {d} {s} {end} r h k = goes_last (rest_end _ _ _ _ _ _ _ _ _ _ _ (arm_moves d s end) h r.rest) (labelled k)
+heads_end {d = d} {s = s} {end = end} r h k = goes_last (rest_end _ _ _ _ _ _ _ _ _ _ _ (arm_moves d s end) h r.rest) (labelled k)
 
 -- 6. The elements of an InitArray
 
@@ -248,20 +248,20 @@ element_cons : (site local type k : ℕ) (x : Expr) (xs : List Expr) → lower_e
 unfolding lower_elements exprs_of element_code
 element_cons site local type k x xs = refl
 
-pub record ElemsRest (d : ℕ) (s : List ℕ) (end site local type : ℕ) (code : Code) (w : Walk) (o m : List ℕ) (k i : ℕ) (v : Walk) (o' m' : List ℕ) : Type 0 where
-  pub rest : Rest (parse_expr d s) (λ xs. lower_elements (exprs_of xs) site local type k) code end w o m i v o' m'
+pub record ElemsRest {S : Type 0} (K : Sinks S) (d : ℕ) (s : List ℕ) (end site local type : ℕ) (code : Code) (w : Walk) (o : S) (m : List ℕ) (k i : ℕ) (v : Walk) (o' : S) (m' : List ℕ) : Type 0 where
+  pub rest : Rest K (parse_expr d s) (λ xs. lower_elements (exprs_of xs) site local type k) code end w o m i v o' m'
   pub few : k ≤ i
 
-pub elems_start : (d : ℕ) (s : List ℕ) (end at site local type : ℕ) (w : Walk) (o m : List ℕ) → at ≤ end → Accepted (exprs_from d s end at) →
-    ElemsRest d s end site local type (code_of (λ xs. lower_elements (exprs_of xs) site local type 0) (exprs_from d s end at)) w o m 0 at w o m
+pub elems_start : {S : Type 0} {K : Sinks S} (d : ℕ) (s : List ℕ) (end at site local type : ℕ) (w : Walk) (o : S) (m : List ℕ) → at ≤ end → Accepted (exprs_from d s end at) →
+    ElemsRest K d s end site local type (code_of (λ xs. lower_elements (exprs_of xs) site local type 0) (exprs_from d s end at)) w o m 0 at w o m
 elems_start d s end at site local type w o m h acc = record { rest = rest_start (parse_expr d s) (λ xs. lower_elements (exprs_of xs) site local type 0) end at w o m h acc; few = omega arith }
 
-module _ {d : ℕ} {s : List ℕ} {end site local type : ℕ} {code : Code} {w : Walk} {o m : List ℕ} {k i : ℕ} {v : Walk} {o₁ m₁ : List ℕ} (r : ElemsRest d s end site local type code w o m k i v o₁ m₁) (h : i < end) where
+module _ {S : Type 0} {K : Sinks S} {d : ℕ} {s : List ℕ} {end site local type : ℕ} {code : Code} {w : Walk} {o : S} {m : List ℕ} {k i : ℕ} {v : Walk} {o₁ : S} {m₁ : List ℕ} (r : ElemsRest K d s end site local type code w o m k i v o₁ m₁) (h : i < end) where
   pub elems_turn : Turn (parse_expr d s) end i r.rest.list r.rest.last
   elems_turn = turn (parse_expr d s) end i (expr_moves d s end) h r.rest.reads
 
-  pub elems_next : (next : ℕ) (v₁ : Walk) (o₂ : List ℕ) (v₂ : Walk) (o₃ m₃ : List ℕ) → next ≡ end_of s i → EmittedFrom (element_code site local type k) v o₁ v₁ o₂ → Ran (expr_code d s end i) v₁ o₂ m₁ v₂ o₃ m₃ →
-      ElemsRest d s end site local type code w o m (k + 1) next v₂ o₃ m₃
+  pub elems_next : (next : ℕ) (v₁ : Walk) (o₂ : S) (v₂ : Walk) (o₃ : S) (m₃ : List ℕ) → next ≡ end_of s i → EmittedFrom K (element_code site local type k) v o₁ v₁ o₂ → Ran K (expr_code d s end i) v₁ o₂ m₁ v₂ o₃ m₃ →
+      ElemsRest K d s end site local type code w o m (k + 1) next v₂ o₃ m₃
   elems_next next v₁ o₂ v₂ o₃ m₃ f em did =
       let t = elems_turn in
       let z = expr_at d s end i t.reads in
@@ -271,9 +271,9 @@ module _ {d : ℕ} {s : List ℕ} {end site local type : ℕ} {code : Code} {w :
         few = omega (arith, r.few, z.head, q);
       }
 
-pub elems_end : {d : ℕ} {s : List ℕ} {end site local type : ℕ} {code : Code} {w : Walk} {o m : List ℕ} {k i : ℕ} {v : Walk} {o₁ m₁ : List ℕ} → ElemsRest d s end site local type code w o m k i v o₁ m₁ → end ≤ i → Ran code w o m v o₁ m₁
+pub elems_end : {S : Type 0} {K : Sinks S} {d : ℕ} {s : List ℕ} {end site local type : ℕ} {code : Code} {w : Walk} {o : S} {m : List ℕ} {k i : ℕ} {v : Walk} {o₁ : S} {m₁ : List ℕ} → ElemsRest K d s end site local type code w o m k i v o₁ m₁ → end ≤ i → Ran K code w o m v o₁ m₁
 unfolding lower_elements exprs_of
-elems_end {d} {s} {end} r h = goes_end (rest_end _ _ _ _ _ _ _ _ _ _ _ (expr_moves d s end) h r.rest)
+elems_end {d = d} {s = s} {end = end} r h = goes_end (rest_end _ _ _ _ _ _ _ _ _ _ _ (expr_moves d s end) h r.rest)
 
 -- 7. The blocks of a switch with a mid default, from case k on: before the default and after it
 

@@ -21,7 +21,7 @@ use Rattle.ir.specs.declared.Class.TheVariants.{Statement}
 use Rattle.ir.proofs.Inversion.{fill_none}
 use Rattle.ir.proofs.StmtPlaces.{arm_moves}
 use Rattle.instr.specs.declared.refusals.Refusal.{Refusal}
-use Rattle.steps.specs.Running.{run, move}
+use Rattle.steps.specs.Running.{Sinks, run, move, noted}
 use Rattle.steps.specs.Walked.{Accepted, DefaultHere, Cased, arms_from, cases_from, list_of, code_of, labels_of, default_from, default_of, default_answer, mid_code, inside_code, fill_code, mark_if, same_as, Ran, EmittedFrom, LabelledFrom, Walk}
 use Rattle.laws.proofs.Results.{onward_assoc, onward_same}
 use Rattle.laws.proofs.Trees.{length_cases_law}
@@ -121,11 +121,11 @@ module _ (k index base dflt d : ℕ) (s : List ℕ) (stop end : ℕ) (sc : Block
       go true e = bodies_below k index base dflt the_default sc x xs (ltb-true k index e)
       go false e = bodies_above k index base dflt the_default sc x xs (let z = ltb-false k index e in omega (arith, z, eqb-false k index q))
 
-  default_turn : (here : ℕ) {v v₁ v₂ : Walk} {o₁ m₁ m₂ o₃ m₃ : List ℕ} → here ≡ same_as k index → LabelledFrom (mark_if here dflt) v m₁ v₁ m₂ →
-      Ran (code_of (λ z. lower_default z sc) (default_from here d s stop end)) v₁ o₁ m₂ v₂ o₃ m₃ → Goes (bodies_from k index base dflt the_default sc (x ∷ xs)) v o₁ m₁ the_rest v₂ o₃ m₃
-  default_turn here {v} {v₁} {v₂} {o₁} {m₁} {m₂} {o₃} {m₃} e mk df = go (eqb k index) refl
+  default_turn : {S : Type 0} {K : Sinks S} (here : ℕ) {v v₁ v₂ : Walk} {o₁ : S} {m₁ m₂ : List ℕ} {o₃ : S} {m₃ : List ℕ} → here ≡ same_as k index → LabelledFrom (mark_if here dflt) v m₁ v₁ m₂ →
+      Ran K (code_of (λ z. lower_default z sc) (default_from here d s stop end)) v₁ o₁ m₂ v₂ o₃ m₃ → Goes K (bodies_from k index base dflt the_default sc (x ∷ xs)) v o₁ m₁ the_rest v₂ o₃ m₃
+  default_turn {K = K} here {v = v} {v₂ = v₂} {o₁ = o₁} {m₁ = m₁} {o₃ = o₃} {m₃ = m₃} e mk df = go (eqb k index) refl
     where
-      go : (b : Bool) → eqb k index ≡ b → Goes (bodies_from k index base dflt the_default sc (x ∷ xs)) v o₁ m₁ the_rest v₂ o₃ m₃
+      go : (b : Bool) → eqb k index ≡ b → Goes K (bodies_from k index base dflt the_default sc (x ∷ xs)) v o₁ m₁ the_rest v₂ o₃ m₃
       go true q =
           let h = same_1 k index here e q in
           let z : the_default ≡ code_of (λ z. lower_default z sc) (default_from here d s stop end) =
@@ -137,8 +137,8 @@ module _ (k index base dflt d : ℕ) (s : List ℕ) (stop end : ℕ) (sc : Block
           goes_on (renamed v o₁ m₁ (bodies_not q))
           (goes_on (skip_step the_rest (recode (mark_0 here dflt h) (labelled mk))) (skip_step the_rest (recode (sym (no_default_code here d s stop end sc h)) df)))
 
-pub record BodiesRest (d : ℕ) (s : List ℕ) (end stop index base dflt : ℕ) (sc : BlockSpan) (code : Code) (w : Walk) (o m : List ℕ) (k i : ℕ) (v : Walk) (o' m' : List ℕ) : Type 0 where
-  pub rest : Rest (arm_of d s) (bodies_from k index base dflt (lower_default (default_of 1 d s stop end) sc) sc) code end w o m i v o' m'
+pub record BodiesRest {S : Type 0} (K : Sinks S) (d : ℕ) (s : List ℕ) (end stop index base dflt : ℕ) (sc : BlockSpan) (code : Code) (w : Walk) (o : S) (m : List ℕ) (k i : ℕ) (v : Walk) (o' : S) (m' : List ℕ) : Type 0 where
+  pub rest : Rest K (arm_of d s) (bodies_from k index base dflt (lower_default (default_of 1 d s stop end) sc) sc) code end w o m i v o' m'
   pub few : k ≤ i
 
 bodies_zero : (index base dflt : ℕ) (p : Code) (sc : BlockSpan) (xs : List (Expr × Block)) → lower_bodies (cases_of xs) index base dflt p sc ≡ bodies_from 0 index base dflt p sc xs
@@ -148,8 +148,8 @@ bodies_zero index base dflt p sc xs =
     let b : base + 0 ≡ base = omega arith in
     rw (bodies_from, le-leb 0 index (omega arith), a, b)
 
-pub bodies_start : (d : ℕ) (s : List ℕ) (end at stop index base dflt : ℕ) (sc : BlockSpan) (w : Walk) (o m : List ℕ) → at ≤ end → Accepted (arms_from d s end at) →
-    BodiesRest d s end stop index base dflt sc (code_of (λ cs. lower_bodies (cases_of cs) index base dflt (lower_default (default_of 1 d s stop end) sc) sc) (arms_from d s end at)) w o m 0 at w o m
+pub bodies_start : {S : Type 0} {K : Sinks S} (d : ℕ) (s : List ℕ) (end at stop index base dflt : ℕ) (sc : BlockSpan) (w : Walk) (o : S) (m : List ℕ) → at ≤ end → Accepted (arms_from d s end at) →
+    BodiesRest K d s end stop index base dflt sc (code_of (λ cs. lower_bodies (cases_of cs) index base dflt (lower_default (default_of 1 d s stop end) sc) sc) (arms_from d s end at)) w o m 0 at w o m
 unfolding code_of
 bodies_start d s end at stop index base dflt sc w o m h acc = record {
   few = omega arith;
@@ -162,17 +162,17 @@ bodies_start d s end at stop index base dflt sc w o m h acc = record {
   };
 }
 
-module _ {d : ℕ} {s : List ℕ} {end stop index base dflt : ℕ} {sc : BlockSpan} {code : Code} {w : Walk} {o m : List ℕ} {k i : ℕ} {v : Walk} {o₁ m₁ : List ℕ}
-    (r : BodiesRest d s end stop index base dflt sc code w o m k i v o₁ m₁) (h : i < end) where
+module _ {S : Type 0} {K : Sinks S} {d : ℕ} {s : List ℕ} {end stop index base dflt : ℕ} {sc : BlockSpan} {code : Code} {w : Walk} {o : S} {m : List ℕ} {k i : ℕ} {v : Walk} {o₁ : S} {m₁ : List ℕ}
+    (r : BodiesRest K d s end stop index base dflt sc code w o m k i v o₁ m₁) (h : i < end) where
   bodies_turn : Turn (arm_of d s) end i r.rest.list r.rest.last
   bodies_turn = turn (arm_of d s) end i (arm_moves d s end) h r.rest.reads
 
   pub bodies_arm : (second third : ℕ) → second ≡ end_of s i → third ≡ end_of s second → ArmHere d s end i second third
   bodies_arm second third e f = let t = bodies_turn in arm_here d s end i (t.item, t.next, t.reads) second third e f
 
-  pub bodies_next : (second third here : ℕ) (v₁ : Walk) (m₂ : List ℕ) (v₂ : Walk) (o₃ m₃ : List ℕ) (v₃ : Walk) (m₄ : List ℕ) (v₄ : Walk) (o₅ m₅ : List ℕ) → second ≡ end_of s i → third ≡ end_of s second → here ≡ same_as k index →
-      LabelledFrom (mark_if here dflt) v m₁ v₁ m₂ → Ran (code_of (λ z. lower_default z sc) (default_from here d s stop end)) v₁ o₁ m₂ v₂ o₃ m₃ → LabelledFrom (act (mark (base + k))) v₂ m₃ v₃ m₄ →
-      Ran (fill_code Statement d s third (second + 4) sc) v₃ o₃ m₄ v₄ o₅ m₅ → BodiesRest d s end stop index base dflt sc code w o m (k + 1) third v₄ o₅ m₅
+  pub bodies_next : (second third here : ℕ) (v₁ : Walk) (m₂ : List ℕ) (v₂ : Walk) (o₃ : S) (m₃ : List ℕ) (v₃ : Walk) (m₄ : List ℕ) (v₄ : Walk) (o₅ : S) (m₅ : List ℕ) → second ≡ end_of s i → third ≡ end_of s second → here ≡ same_as k index →
+      LabelledFrom (mark_if here dflt) v m₁ v₁ m₂ → Ran K (code_of (λ z. lower_default z sc) (default_from here d s stop end)) v₁ o₁ m₂ v₂ o₃ m₃ → LabelledFrom (act (mark (base + k))) v₂ m₃ v₃ m₄ →
+      Ran K (fill_code Statement d s third (second + 4) sc) v₃ o₃ m₄ v₄ o₅ m₅ → BodiesRest K d s end stop index base dflt sc code w o m (k + 1) third v₄ o₅ m₅
   bodies_next second third here v₁ m₂ v₂ o₃ m₃ v₃ m₄ v₄ o₅ m₅ e f g mk df ml did =
       let t = bodies_turn in
       let a = bodies_arm second third e f in
@@ -193,9 +193,9 @@ bodies_none k index base dflt p sc = go (leb k index) refl
     go true e = rw (bodies_from, e)
     go false e = rw (bodies_from, e)
 
-pub bodies_end : {d : ℕ} {s : List ℕ} {end stop index base dflt : ℕ} {sc : BlockSpan} {code : Code} {w : Walk} {o m : List ℕ} {k i : ℕ} {v : Walk} {o₁ m₁ : List ℕ} →
-    BodiesRest d s end stop index base dflt sc code w o m k i v o₁ m₁ → end ≤ i → Ran code w o m v o₁ m₁
-bodies_end {d} {s} {end} {stop} {index} {base} {dflt} {sc} {k = k} r h =
+pub bodies_end : {S : Type 0} {K : Sinks S} {d : ℕ} {s : List ℕ} {end stop index base dflt : ℕ} {sc : BlockSpan} {code : Code} {w : Walk} {o : S} {m : List ℕ} {k i : ℕ} {v : Walk} {o₁ : S} {m₁ : List ℕ} →
+    BodiesRest K d s end stop index base dflt sc code w o m k i v o₁ m₁ → end ≤ i → Ran K code w o m v o₁ m₁
+bodies_end {d = d} {s = s} {end = end} {stop = stop} {index = index} {base = base} {dflt = dflt} {sc = sc} {k = k} r h =
     goes_end (goes_on (rest_end _ _ _ _ _ _ _ _ _ _ _ (arm_moves d s end) h r.rest) (renamed _ _ _ (bodies_none k index base dflt (lower_default (default_of 1 d s stop end) sc) sc)))
 
 -- 3. Many labels
@@ -205,7 +205,7 @@ unfolding many run onward
 many_back at zero p = record { alike = λ s. refl }
 many_back at (suc k) p = record {
   alike = λ s.
-      onward_assoc (move (new at) s) (run (many at k done)) (run p) ∙ onward_same (move (new at) s) (run (many at k done then p)) (run (many at k p)) (λ c _. (many_back at k p).alike c);
+      onward_assoc (move noted (new at) s) (run noted (many at k done)) (run noted p) ∙ onward_same (move noted (new at) s) (run noted (many at k done then p)) (run noted (many at k p)) (λ c _. (many_back at k p).alike c);
 }
 
 -- 4. The whole
@@ -240,11 +240,11 @@ module _ (d : ℕ) (s : List ℕ) (end at stop site first index n : ℕ) (sc : B
   cases_long : n ≡ length_cases (cases_of acc.0)
   cases_long = count ∙ ap length (listed _ _ _ acc.2) ∙ sym (length_cases_law acc.0)
 
-  pub mid_did : (body : ℕ) {w w₀ w₁ w₂ w₃ w₄ r : Walk} {o m m₀ m₁ o₂ m₂ o₃ o₄ o₅ m₅ : List ℕ} → body ≡ labels_of w → LabelledFrom (act (new site)) w m w₀ m₀ → LabelledFrom (many site n done) w₀ m₀ w₁ m₁ →
-      Ran (code_of (λ cs. lower_matchers (cases_of cs) site first body) (arms_from d s end at)) w₁ o m₁ w₂ o₂ m₂ →
-      EmittedFrom (instr site SwitchDefault 0) w₂ o₂ w₃ o₃ → EmittedFrom (jump site Jump (body + n)) w₃ o₃ w₄ o₄ →
-      Ran (code_of (λ cs. lower_bodies (cases_of cs) index body (body + n) (lower_default (default_of 1 d s stop end) sc) sc) (arms_from d s end at)) w₄ o₄ m₂ r o₅ m₅ →
-      Ran (code_of (λ cs. mid_code cs site first index (default_of 1 d s stop end) sc) (arms_from d s end at)) w o m r o₅ m₅
+  pub mid_did : {S : Type 0} {K : Sinks S} (body : ℕ) {w w₀ w₁ w₂ w₃ w₄ r : Walk} {o : S} {m m₀ m₁ : List ℕ} {o₂ : S} {m₂ : List ℕ} {o₃ o₄ o₅ : S} {m₅ : List ℕ} → body ≡ labels_of w → LabelledFrom (act (new site)) w m w₀ m₀ → LabelledFrom (many site n done) w₀ m₀ w₁ m₁ →
+      Ran K (code_of (λ cs. lower_matchers (cases_of cs) site first body) (arms_from d s end at)) w₁ o m₁ w₂ o₂ m₂ →
+      EmittedFrom K (instr site SwitchDefault 0) w₂ o₂ w₃ o₃ → EmittedFrom K (jump site Jump (body + n)) w₃ o₃ w₄ o₄ →
+      Ran K (code_of (λ cs. lower_bodies (cases_of cs) index body (body + n) (lower_default (default_of 1 d s stop end) sc) sc) (arms_from d s end at)) w₄ o₄ m₂ r o₅ m₅ →
+      Ran K (code_of (λ cs. mid_code cs site first index (default_of 1 d s stop end) sc) (arms_from d s end at)) w o m r o₅ m₅
   unfolding mid_code
   mid_did body e one mk h p j b =
       let cs = acc.0 in
@@ -284,23 +284,23 @@ module _ (d : ℕ) (s : List ℕ) (end at stop site first index n : ℕ) (sc : B
     inside_is : (b : Bool) → b ≡ (not (eqb there 0) && ltb index n) → inside_for there index d s end at stop site first sc ≡ inside_of b
     inside_is b e = code_is _ (arms_from d s end at) acc.0 acc.1 acc.2 ∙ ap inside_of (mid_test ∙ sym e)
 
-    pub inside_mid : (b : Bool) {w r : Walk} {o m o' m' : List ℕ} → b ≡ (not (eqb there 0) && ltb index n) → b ≡ true →
-        Ran (code_of (λ cs. mid_code cs site first index (default_of 1 d s stop end) sc) (arms_from d s end at)) w o m r o' m' → Ran (inside_for there index d s end at stop site first sc) w o m r o' m'
+    pub inside_mid : {S : Type 0} {K : Sinks S} (b : Bool) {w r : Walk} {o : S} {m : List ℕ} {o' : S} {m' : List ℕ} → b ≡ (not (eqb there 0) && ltb index n) → b ≡ true →
+        Ran K (code_of (λ cs. mid_code cs site first index (default_of 1 d s stop end) sc) (arms_from d s end at)) w o m r o' m' → Ran K (inside_for there index d s end at stop site first sc) w o m r o' m'
     inside_mid b e t x =
         let z : default_of there d s stop end ≡ default_of 1 d s stop end = ap default_answer (some_default there d s stop end (is_there there index n b e t)) in
         recode (inside_is b e ∙ ap inside_of t ∙ ap (λ D. mid_code acc.0 site first index D sc) z ∙ sym (code_is (λ cs. mid_code cs site first index (default_of 1 d s stop end) sc) (arms_from d s end at) acc.0 acc.1 acc.2)) x
 
-    module _ (b : Bool) (e : b ≡ (not (eqb there 0) && ltb index n)) (t : b ≡ false) {w v : Walk} {o m o₁ m₁ : List ℕ}
-        (x : Ran (code_of (λ cs. lower_cases (cases_of cs) site first none sc) (arms_from d s end at)) w o m v o₁ m₁) where
-      the_cases : Ran (lower_cases (cases_of acc.0) site first none sc) w o m v o₁ m₁
+    module _ {S : Type 0} {K : Sinks S} (b : Bool) (e : b ≡ (not (eqb there 0) && ltb index n)) (t : b ≡ false) {w v : Walk} {o : S} {m : List ℕ} {o₁ : S} {m₁ : List ℕ}
+        (x : Ran K (code_of (λ cs. lower_cases (cases_of cs) site first none sc) (arms_from d s end at)) w o m v o₁ m₁) where
+      the_cases : Ran K (lower_cases (cases_of acc.0) site first none sc) w o m v o₁ m₁
       the_cases = recode (sym (code_is (λ cs. lower_cases (cases_of cs) site first none sc) (arms_from d s end at) acc.0 acc.1 acc.2)) x
 
-      pub inside_none : there ≡ 0 → Ran (inside_for there index d s end at stop site first sc) w o m v o₁ m₁
+      pub inside_none : there ≡ 0 → Ran K (inside_for there index d s end at stop site first sc) w o m v o₁ m₁
       unfolding lower_stmt
       inside_none z = recode (inside_is b e ∙ ap inside_of t ∙ ap (λ D. lower_cases (cases_of acc.0) site first none sc then lower_last D site sc) (none_is z)) (both the_cases nothing)
 
-      pub inside_last : {u r : Walk} {o₂ o₃ m₃ : List ℕ} → (there ≡ 0 → ⊥) → EmittedFrom (instr site SwitchDefault 0) v o₁ u o₂ → Ran (fill_code Statement d s stop (end + 4) sc) u o₂ m₁ r o₃ m₃ →
-          Ran (inside_for there index d s end at stop site first sc) w o m r o₃ m₃
+      pub inside_last : {u r : Walk} {o₂ o₃ : S} {m₃ : List ℕ} → (there ≡ 0 → ⊥) → EmittedFrom K (instr site SwitchDefault 0) v o₁ u o₂ → Ran K (fill_code Statement d s stop (end + 4) sc) u o₂ m₁ r o₃ m₃ →
+          Ran K (inside_for there index d s end at stop site first sc) w o m r o₃ m₃
       unfolding lower_stmt
       inside_last z p y =
           let k = default_some there d s stop end z (here z) in
@@ -308,10 +308,10 @@ module _ (d : ℕ) (s : List ℕ) (end at stop site first index n : ℕ) (sc : B
           (both the_cases (both (emitted p) (recode (sym (block_code d s stop (end + 4) sc k.1.0 stop k.1.1)) y)))
 
       -- it was refused
-      pub inside_refused : {q : Refusal} → v ≡ std.Err q → Ran (inside_for there index d s end at stop site first sc) w o m v o₁ m₁
+      pub inside_refused : {q : Refusal} → v ≡ std.Err q → Ran K (inside_for there index d s end at stop site first sc) w o m v o₁ m₁
       inside_refused {q} f = go (eqb there 0) refl
         where
-          go : (z : Bool) → eqb there 0 ≡ z → Ran (inside_for there index d s end at stop site first sc) w o m v o₁ m₁
+          go : (z : Bool) → eqb there 0 ≡ z → Ran K (inside_for there index d s end at stop site first sc) w o m v o₁ m₁
           go true z = inside_none (eqb-true there 0 z)
           go false z = inside_last (eqb-false there 0 z) (emit_stays (instr site SwitchDefault 0) v o₁ q f) (stays (fill_code Statement d s stop (end + 4) sc) v o₁ m₁ q f)
 
@@ -320,22 +320,22 @@ module _ (d : ℕ) (s : List ℕ) (stop p there index list : ℕ) (e : list ≡ 
   pub cased_at : Cased (get_or s (p + 4) 0) d s stop p → Accepted (arms_from d s list (p + 9)) × DefaultHere there d s stop list × (p + 9 ≤ list) × (list ≤ stop)
   cased_at k = rw (e, f) (k.cases, k.default, k.head, k.tail)
 
-  pub as_inside : (site first : ℕ) (sc : BlockSpan) {w r : Walk} {o m o' m' : List ℕ} → Ran (inside_for there index d s list (p + 9) stop site first sc) w o m r o' m' → Ran (inside_code d s stop p site first sc) w o m r o' m'
+  pub as_inside : {S : Type 0} {K : Sinks S} (site first : ℕ) (sc : BlockSpan) {w r : Walk} {o : S} {m : List ℕ} {o' : S} {m' : List ℕ} → Ran K (inside_for there index d s list (p + 9) stop site first sc) w o m r o' m' → Ran K (inside_code d s stop p site first sc) w o m r o' m'
   unfolding inside_code
   as_inside site first sc x = rw (e, f, g) at x
 
 -- the same of a default before a case
 module _ (d : ℕ) (s : List ℕ) (stop p index list : ℕ) (e : list ≡ end_of s (p + 5)) (g : index ≡ number 4 s p) where
-  abbrev Middle : (index list site first : ℕ) (sc : BlockSpan) (w : Walk) (o m : List ℕ) (r : Walk) (o' m' : List ℕ) → Type 0
-  Middle i l site first sc w o m r o' m' = Ran (code_of (λ cs. mid_code cs site first i (default_of 1 d s stop l) sc) (arms_from d s l (p + 9))) w o m r o' m'
+  abbrev Middle : {S : Type 0} (K : Sinks S) (index list site first : ℕ) (sc : BlockSpan) (w : Walk) (o : S) (m : List ℕ) (r : Walk) (o' : S) (m' : List ℕ) → Type 0
+  Middle K i l site first sc w o m r o' m' = Ran K (code_of (λ cs. mid_code cs site first i (default_of 1 d s stop l) sc) (arms_from d s l (p + 9))) w o m r o' m'
 
   pub mid_cased : (n : ℕ) → n ≡ length (list_of (cases_from d s p)) → Cased 1 d s stop p → Accepted (arms_from d s list (p + 9)) × DefaultHere 1 d s stop list × (p + 9 ≤ list) × (list ≤ stop) × (n ≡ length (list_of (arms_from d s list (p + 9))))
   mid_cased n h k = rw e (k.cases, k.default, k.head, k.tail, h)
 
-  pub mid_there : (site first : ℕ) (sc : BlockSpan) {w r : Walk} {o m o' m' : List ℕ} → Middle index list site first sc w o m r o' m' → Middle (number 4 s p) (end_of s (p + 5)) site first sc w o m r o' m'
+  pub mid_there : {S : Type 0} {K : Sinks S} (site first : ℕ) (sc : BlockSpan) {w r : Walk} {o : S} {m : List ℕ} {o' : S} {m' : List ℕ} → Middle K index list site first sc w o m r o' m' → Middle K (number 4 s p) (end_of s (p + 5)) site first sc w o m r o' m'
   mid_there site first sc x = rw (e, g) at x
 
-  pub mid_here : (site first : ℕ) (sc : BlockSpan) {w r : Walk} {o m o' m' : List ℕ} → Middle (number 4 s p) (end_of s (p + 5)) site first sc w o m r o' m' → Middle index list site first sc w o m r o' m'
+  pub mid_here : {S : Type 0} {K : Sinks S} (site first : ℕ) (sc : BlockSpan) {w r : Walk} {o : S} {m : List ℕ} {o' : S} {m' : List ℕ} → Middle K (number 4 s p) (end_of s (p + 5)) site first sc w o m r o' m' → Middle K index list site first sc w o m r o' m'
   mid_here site first sc x = rw (e, g) x
 
 -- a default that there is, as one of mark 1

@@ -5,4 +5,4 @@ use Rattle.steps.proofs.counters.Counters.element.Goals as goal
 
 pub returns : goal.returns
 unfolding element_code emits
-returns c = emitted_both c.plain.ensures (emitted_both c.plain-2.ensures (emitted_both c.plain-3.ensures (emitted_both c.plain-4.ensures none_emitted)))
+returns g c = emitted_both c.plain.ensures (emitted_both c.plain-2.ensures (emitted_both c.plain-3.ensures (emitted_both c.plain-4.ensures none_emitted)))

@@ -2,4 +2,4 @@ use Rattle.steps.proofs.StepLaws.{emit_did}
 use Rattle.steps.proofs.counters.Counters.invoke.Goals as goal
 
 pub returns : goal.returns
-returns c = emit_did _ c.emit.ensures c.emit.auto.out (rw c.new.ensures)
+returns g c = emit_did _ c.emit.ensures (rw c.new.ensures)

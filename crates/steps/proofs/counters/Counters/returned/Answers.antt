@@ -4,4 +4,4 @@ use Rattle.steps.proofs.counters.Counters.returned.Goals as goal
 
 pub returns : goal.returns
 unfolding lower_return_nothing
-returns c = emitted_both c.plain.ensures c.plain-2.ensures
+returns g c = emitted_both c.plain.ensures c.plain-2.ensures
