@@ -1,3 +1,4 @@
 mod WholeLaws
+pub mod MeasureLaws
 mod LowerLaws
 mod Counters

@@ -4,9 +4,10 @@
 ghost use Rattle.std.specs.Prelude.{◌≡◌, true, length};
 ghost use Rattle.definitions.specs.Read.{parse_unit};
 ghost use Rattle.definitions.specs.Stage.{lower_into, lower_to, measure};
-ghost use Rattle.steps.specs.Running.{run, puts};
-ghost use Rattle.steps.specs.Walked.{Accepted, ran};
-ghost use Rattle.assemble.specs.Whole.{unit_code, zeros, Lowers, answer, measuring};
+ghost use Rattle.steps.specs.Running.{puts};
+ghost use Rattle.steps.specs.Walked.{Accepted};
+ghost use Rattle.assemble.specs.Walk.{Walked};
+ghost use Rattle.assemble.specs.Whole.{Lowers, answer, measuring};
 
 use instr::listings;
 use instr::records::Record;
@@ -18,38 +19,42 @@ use steps::sinks::{Listing, Nothing, Sink};
 use steps::spans::BlockSpan;
 use walk::nodes::stmts;
 
-// The walk over a unit that was read: its totals, or why it is not lowered; and what the sink and the marks are then.
-#[tactic(auto, using(crate::proofs::LowerLaws::walked_as))]
-fn walk_unit<S: Sink>(s: &[u8], sink: &mut S, marks: &mut [u32]) -> Result<Counters, Refusal>
-    requires { Accepted (parse_unit s.now) }
-    ensures { ran result sink.new marks.new ≡ run S.emitted (unit_code s.now) (zeros sink.old marks.old) }
+/// The walk over a unit that was read: its totals, or the refusal that lowering it gives.
+///
+/// The sink is given the record of every instruction, in listing order, with the offset where the
+/// instruction begins and its number. The words of `marks` are the room for the label table, which
+/// stands at their beginning where it fits. Where it does not, what they hold then is left open; on
+/// a refusal so is that and what the sink was given.
+pub fn walk<S: Sink>(unit: &[u8], sink: &mut S, marks: &mut [u32]) -> Result<Counters, Refusal>
+    requires { Accepted (parse_unit unit.now) }
+    ensures { Walked S.emitted unit.now sink.old marks.old result sink.new marks.new }
 {
     let mut c = Counters::new();
     let span = BlockSpan {
         break_target: None,
         continue_target: None,
-        returns: usize::from(s[5]),
+        returns: usize::from(unit[5]),
     };
-    stmts(s, 10, s.len(), DEPTH_LIMIT, span, &mut c, sink, marks)?;
+    stmts(unit, 10, unit.len(), DEPTH_LIMIT, span, &mut c, sink, marks)?;
     Ok(c)
 }
 
 // The same into a lent buffer.
 fn list_unit(s: &[u8], out: &mut [u8], marks: &mut [u32]) -> Result<Counters, Refusal>
     requires { Accepted (parse_unit s.now) }
-    ensures { ran result out.new marks.new ≡ run puts (unit_code s.now) (zeros out.old marks.old) }
+    ensures { Walked puts s.now out.old marks.old result out.new marks.new }
 {
     let mut sink = Listing { out };
-    walk_unit(s, &mut sink, marks)
+    walk(s, &mut sink, marks)
 }
 
 // What a unit takes: its totals, whatever room there is, or the refusal. The walk keeps no record and no mark.
-#[tactic(auto, using(crate::proofs::LowerLaws::read_accepted, crate::proofs::LowerLaws::read_refused, crate::proofs::LowerLaws::measures))]
+#[tactic(auto, using(crate::proofs::MeasureLaws::read_accepted, crate::proofs::MeasureLaws::read_refused, crate::proofs::MeasureLaws::measures))]
 pub fn measure(unit: &[u8]) -> Result<Counters, Refusal>
     ensures { measuring result ≡ measure unit.now }
 {
     ir::read_unit(unit)?;
-    walk_unit(unit, &mut Nothing, &mut [])
+    walk(unit, &mut Nothing, &mut [])
 }
 
 // A unit that is lowered into these buffers: the walk and the listing's front.

@@ -1,12 +1,11 @@
 -- One step of the walk after another. Assumes nothing.
-use Rattle.std.proofs.Common.{◌≡◌, ℕ, zero, suc, ◌+◌, ◌-◌, ◌/◌, ◌%◌, ◌^◌, ◌<◌, ◌≤◌, Bool, true, false, cond, leb, List, [], ◌∷◌, ◌++◌, length, take, drop, set, sym, refl, ap, ◌∙◌, append-nil, arith, length-drop, length-set, drop_of_length-le, take_all, drop-drop, le-ltb, lt-ltb, le-leb, leb-false, leb-true}
+use Rattle.std.proofs.Common.{◌≡◌, ℕ, zero, suc, ◌+◌, ◌-◌, ◌%◌, ◌^◌, ◌<◌, ◌≤◌, Bool, true, false, cond, leb, List, [], ◌∷◌, ◌++◌, length, take, drop, set, sym, refl, ap, ◌∙◌, append-nil, arith, length-drop, length-set, drop_of_length-le, take_all, drop-drop, le-ltb, lt-ltb, le-leb, leb-false, leb-true}
 use borrow.Author.Tests.{lt-leb}
 use borrow.Rule.Slice.PartMut.{put_mid}
 use Rattle.std.specs.Prelude as std
-use Rattle.definitions.specs.Bytes.{bytes}
 use Rattle.definitions.specs.Tag.{tag_size, row_of, WeakRefToRef, Nop}
 use Rattle.definitions.specs.Tag as definitions
-use Rattle.definitions.specs.Instr.{Instr, record_length, record_bytes, size, plain}
+use Rattle.definitions.specs.Instr.{Instr, record_length, size, plain}
 use Rattle.definitions.specs.Listing.{listing_length}
 use Rattle.definitions.specs.Code.{Code, done, ◌then◌, label, Action, mark, new, emit, refuse, label_limit, act}
 use Rattle.definitions.specs.Lower.{require, jump_to, jump, instr, weak_to_ref, nops}
@@ -94,33 +93,6 @@ marks_none here l k m e = rw e (record { did = nothing })
 pub refuse_did : (k : Counters) (r : reasons.Reason) (p x : ℕ) → LeftFrom (act (refuse (number_of r) p x)) (std.Ok k) (std.Err (record { reason = r; place = p; extra = x }))
 unfolding ran move
 refuse_did k r p x = record { did = λ m. acts _ _ k [] m _ [] m refl refl refl }
-
--- a record whose fields are cut to their widths has the same bytes
-pub bytes_cut : (v : ℕ) → bytes 2 (v % 2 ^ 16) ≡ bytes 2 v
-unfolding bytes
-bytes_cut v =
-    let a : (v % 2 ^ 16) / 256 % 256 ≡ v / 256 % 256 = omega arith in
-    let b : (v % 2 ^ 16) / 1 % 256 ≡ v / 1 % 256 = omega arith in
-    rw (a, b)
-
-byte_cut : (v : ℕ) → bytes 1 (v % 2 ^ 8) ≡ bytes 1 v
-unfolding bytes
-byte_cut v =
-    let b : (v % 2 ^ 8) / 1 % 256 ≡ v / 1 % 256 = omega arith in
-    rw b
-
-word_cut : (v : ℕ) → bytes 4 (v % 2 ^ 32) ≡ bytes 4 v
-unfolding bytes
-word_cut v =
-    let a : (v % 2 ^ 32) / 16777216 % 256 ≡ v / 16777216 % 256 = omega arith in
-    let b : (v % 2 ^ 32) / 65536 % 256 ≡ v / 65536 % 256 = omega arith in
-    let c : (v % 2 ^ 32) / 256 % 256 ≡ v / 256 % 256 = omega arith in
-    let d : (v % 2 ^ 32) / 1 % 256 ≡ v / 1 % 256 = omega arith in
-    rw (a, b, c, d)
-
-pub put_cut : (o : List ℕ) (k : ℕ) (i : Instr) → put o k (cut i) ≡ put o k i
-unfolding put record_bytes
-put_cut o k i = simp (byte_cut i.small, bytes_cut i.first, bytes_cut i.second, bytes_cut i.flags, word_cut i.node)
 
 -- the counters and the sink after a record
 pub emitted_is : (k : Counters) (i : Instr) (size offset count : ℕ) → size ≡ tag_size i.tag → offset ≡ (k.offset + size) % 2 ^ 32 → count ≡ (k.count + 1) % 2 ^ 32 →

@@ -1,9 +1,10 @@
 // What the entry points give for a unit, as the text that the files have. None is a text that does not fit.
 ghost use Rattle.std.specs.Prelude.{◌≤◌, length, IfSome};
 
+use foresee::far::foresee;
 use instr::listings;
 use instr::records::Record;
-use instr::refusals::Refusal;
+use instr::refusals::{Reason, Refusal};
 use itoa::Buffer;
 use print::Form;
 use samples::page::Page;
@@ -53,6 +54,22 @@ fn labelled_lines(listing: &[u8], out: &mut [u8]) -> Option<usize> {
     let length = code_text(listing, Form::Labels, out.get_mut(4..)?)?;
     out.get_mut(..8)?.copy_from_slice(b"labelled");
     Some(length + 4)
+}
+
+// Whether looking at a unit says what resolving its listing said: nothing is too far, or what is first, or why it is not lowered.
+pub fn foreseen(unit: &[u8], resolved: Result<usize, Refusal>) -> bool {
+    match (foresee(unit), resolved) {
+        (Ok(None), Ok(_)) => true,
+        (Ok(Some(far)), Err(q)) => {
+            q == Refusal {
+                reason: Reason::Distance,
+                place: far.number as usize,
+                extra: far.operand as usize,
+            }
+        }
+        (Err(p), Err(q)) => p == q,
+        _ => false,
+    }
 }
 
 impl<'a> Lent<'a> {

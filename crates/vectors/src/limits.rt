@@ -1,5 +1,5 @@
 // Units at the limits, lowered and resolved: what lowering counted, and the first line of the printed stage.
-use super::answers::Lent;
+use super::answers::{Lent, foreseen};
 use super::show;
 use samples::{made, text};
 use std::io;
@@ -22,14 +22,19 @@ enum Made {
     Casts(u16),
 }
 
-// The Break in Blocks alone is refused by the walk, which comes after the reading.
-const CASES: [(&str, Made); 13] = [
+// The Break in Blocks alone is refused by the walk, which comes after the reading. Branches have two labels more than there are: as many as
+// the tables hold by which a unit is looked at, and one more.
+const CASES: [(&str, Made); 17] = [
     ("Construct with 255 arguments", Made::Construct(255)),
     ("Construct with 256 arguments", Made::Construct(256)),
     ("flagged argument at index 15", Made::Flagged(15)),
     ("flagged argument at index 16", Made::Flagged(16)),
     ("While on false, 32760 Nops", Made::WhileNops(32760)),
     ("While on false, 32761 Nops", Made::WhileNops(32761)),
+    ("254 branches", Made::Branches(254)),
+    ("255 branches", Made::Branches(255)),
+    ("4094 branches", Made::Branches(4094)),
+    ("4095 branches", Made::Branches(4095)),
     ("65534 branches", Made::Branches(65534)),
     ("65535 branches", Made::Branches(65535)),
     ("depth 200, a Break in Whiles", Made::Whiles(199)),
@@ -54,7 +59,7 @@ impl Made {
     }
 }
 
-// The page's first n bytes as a unit. Its text goes to the page: by then the unit is not needed.
+// The page's first n bytes as a unit, and whether looking at it says the same. Its text goes to the page: by then the unit is not needed.
 fn first_line(
     rt: &impl Print,
     n: usize,
@@ -62,7 +67,9 @@ fn first_line(
     lent: Lent,
     code: &mut Code,
 ) -> io::Result<()> {
-    let lowered = lent.lower(text::first(page, n));
+    let unit = text::first(page, n);
+    let lowered = lent.lower(unit);
+    let alike = foreseen(unit, lowered.resolve(code));
     if let Ok(c) = lowered.answer {
         show::labelled(rt, c)?;
         print!(rt; "; ")?;
@@ -71,7 +78,14 @@ fn first_line(
     let words = text::first(page, length);
     let end = text::find(words, b'\n');
     io::writer(rt).write_all(text::first(words, end))?;
-    println!(rt)
+    println!(rt;
+        "{}",
+        if alike {
+            ", as foreseen"
+        } else {
+            ", not as foreseen"
+        }
+    )
 }
 
 // The arrays stand here and not in `first_line`: the check computes with the length of a local, and of this one it runs out of stack.

@@ -1,6 +1,6 @@
 // Replays a file of units and answers: a line `unit NAME HEX`, then for each answer a line `stage` or `labelled` and its lines, then
 // an empty line.
-use super::answers::Lent;
+use super::answers::{Lent, foreseen};
 use samples::text;
 use std::fs::File;
 use std::io;
@@ -57,7 +57,8 @@ fn same(words: &[u8], answer: &[u8]) -> bool {
     !answer.is_empty() && words.strip_prefix(answer).is_some_and(|rest| ends(rest))
 }
 
-// This and `labelled_agrees` each hold their buffers: a closure for the one call in which they differ would have to lend them.
+// The printed stage, and what looking at the unit says of it. This and `labelled_agrees` each hold their buffers: a closure for the one call
+// in which they differ would have to lend them.
 fn stage_agrees(unit: &[u8], words: &[u8]) -> bool {
     let mut listing: Listing = [0; 45061];
     let mut marks: Marks = [0; 2048];
@@ -67,8 +68,10 @@ fn stage_agrees(unit: &[u8], words: &[u8]) -> bool {
         listing: &mut listing,
         marks: &mut marks,
     };
-    match lent.lower(unit).stage(&mut code, &mut out) {
-        Some(n) => same(words, text::first(&out, n)),
+    let lowered = lent.lower(unit);
+    let alike = foreseen(unit, lowered.resolve(&mut code));
+    match lowered.stage(&mut code, &mut out) {
+        Some(n) => alike && same(words, text::first(&out, n)),
         None => false,
     }
 }

@@ -1,0 +1,3 @@
+pub mod Distances
+pub mod Looks
+pub mod Far
