@@ -7,7 +7,9 @@ use native.Mathlib.Nat.{add-zero, zero-add, div-lt_iff_lt-mul, pow-zero, div-one
 use native.Mathlib.Numerals.{add-one}
 use lib.Dec.{lit<}
 use lib.ListN.{take-append-drop, length, get_or, take, drop, set, length-drop}
-use lib.Seq.{take-suc, get_or-drop, get_or_at, get_or-append-add, set_at, length-take-le, append_snoc}
+use lib.Seq.{drop-cons, take-suc, get_or-drop, get_or_at, get_or-append-add, set_at, length-take-le, append_snoc}
+use borrow.Rule.Slice.PartMut.{put_mid, Post-is}
+use Rattle.std.specs.Int.{bytes_high_first}
 use Rattle.definitions.specs.Bytes.{number, bytes}
 use Rattle.instr.specs.Values.{stored}
 
@@ -97,3 +99,22 @@ number_step s from i j v e f g = rw (add-one i, number_suc i s from, g, e, f)
 pub one_byte : (s : List ℕ) (at : ℕ) {v : ℕ} → v ≡ get_or s at 0 → v ≡ number 1 s at
 unfolding number
 one_byte s at e = simp (add-zero, zero-add) e
+
+-- the bytes of a number as the library gives them
+be_bytes : (w v : ℕ) → bytes_high_first w v ≡ bytes w v
+unfolding bytes
+be_bytes zero v = refl
+be_bytes (suc zero) v = rw (pow-zero 256, div-one v)
+be_bytes (suc (suc w)) v = ap (λ (l : List ℕ). v / 256 ^ suc w % 256 ∷ l) (be_bytes (suc w) v)
+
+-- put in the place of a part
+pub put_whole : (s : List ℕ) (at w v : ℕ) {ys : List ℕ} → ys ≡ bytes_high_first w v → put_mid at (at + w - at) s ys ≡ stored at w v s
+put_whole s at w v e = rw (e, be_bytes w v, Post-is at (at + w) s (omega arith))
+
+-- one byte alone
+pub put_one : (s : List ℕ) (at v : ℕ) → at + 1 ≤ length s → v < 256 → set s at v ≡ stored at 1 v s
+unfolding bytes
+put_one s at v h b =
+    let i : at < length s = omega arith in
+    let e : s ≡ take at s ++ (get_or s at 0 ∷ drop (at + 1) s) = rw (add-one at, ← drop-cons s at 0 i) (sym (take-append-drop at s)) in
+    rw (pow-zero 256, div-one v, mod-eq_of_lt b) (ap (λ (l : List ℕ). set l at v) e ∙ set_at (take at s) (get_or s at 0) (drop (at + 1) s) v at (length-take-le at s (omega arith)))

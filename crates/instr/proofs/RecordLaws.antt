@@ -5,19 +5,17 @@ use mathlib.Core.Bool.{Bool, true, ◌&&◌, and-eq-true_iff}
 use mathlib.Core.List.{List, [], ◌∷◌, ◌++◌, append_assoc}
 use native.Mathlib.Omega.{arith}
 use native.Mathlib.Nat.{add-zero}
-use native.Mathlib.Numerals.{add-one}
 use lib.Dec.{ltb, eqb, lit<}
-use lib.ListN.{length, get_or, take, drop, length-append, drop_of_length-le}
-use lib.Seq.{take_at, drop-append-add, drop-cons, drop-drop, take-add}
+use lib.ListN.{length, get_or, take, drop, length-append}
+use lib.Seq.{take_at, drop-append-add, drop-drop, take-add}
 use borrow.Author.Tests.{le-leb, lt-leb, eqb-true}
 use Rattle.definitions.specs.Bytes.{number, bytes}
 use Rattle.definitions.specs.Tag as definitions
 use Rattle.definitions.specs.Tag.{tag_size, emitted, row_of}
 use Rattle.definitions.specs.Instr.{Instr, record_length, record_bytes, record_at, good_record, unused0}
 use Rattle.instr.specs.declared.tables.Row.{Row}
-use Rattle.instr.specs.declared.records.Field.{Field}
 use Rattle.laws.proofs.Widths.{Within}
-use Rattle.instr.specs.Values.{row_is, slot, fields_of, stored, written}
+use Rattle.instr.specs.Values.{Field, row_is, slot, fields_of, stored, written}
 use Rattle.laws.proofs.Tables.{at}
 use Rattle.instr.proofs.NumberLaws.{length_bytes, read_back, write_back}
 
@@ -132,22 +130,13 @@ put_all_law (f ∷ fs) p s at end h l =
     rw (eqb-true f.at at g.0, take_at p (drop at s) at l, skip p (drop at s) at f.width l, drop-drop f.width at s) (sym (append_assoc p b (drop (at + f.width) s))) in
     rw (q, put_all_law fs (p ++ b) s (at + f.width) end g.1 m) (simp append_assoc)
 
--- one turn of the loop over the fields of a record
-module _ (i : Instr) (fs : List Field) (e : fs ≡ fields_of i) (k : ℕ) where
-  -- each ends inside the record
-  pub put_next : (s : List ℕ) {all t : List ℕ} → k < length (fields_of i) → all ≡ put_all (drop k fs) s → t ≡ stored (nth fs k).at (nth fs k).width (nth fs k).value s →
-      all ≡ put_all (drop (k + 1) fs) t
-  unfolding put_all
-  put_next s h a d = let l : k < length fs = rw e h in rw (a, d, add-one k, drop-cons fs k (slot 0 0 0) l)
-
-  -- and its end: all are stored
-  pub put_end : (s t : List ℕ) → length (fields_of i) ≤ k → record_length ≤ length s → put_all fs s ≡ put_all (drop k fs) t → t ≡ written i s
-  unfolding put_all written
-  put_end s t h l a =
-      let n : length fs ≤ k = rw e h in
-      let d : drop k fs ≡ [] = drop_of_length-le fs n in
-      let b : t ≡ put_all (fields_of i) s = rw (d, e) at (sym a) in
-      rw (b, le-leb record_length (length s) l, record_bytes_law i) (put_all_law (fields_of i) [] s 0 record_length refl refl)
+-- all fields of a record, one after the other
+pub put_fields : (i : Instr) (s : List ℕ) {a b c d e f g t : List ℕ} → record_length ≤ length s →
+    a ≡ stored 0 1 i.tag s → b ≡ stored 1 1 i.small a → c ≡ stored 2 2 i.first b → d ≡ stored 4 2 i.second c → e ≡ stored 6 2 i.line d →
+    f ≡ stored 8 2 i.flags e → g ≡ stored 10 8 i.value f → t ≡ stored 18 4 i.node g → t ≡ written i s
+unfolding put_all written
+put_fields i s l ea eb ec ed ee ef eg et =
+    rw (et, eg, ef, ee, ed, ec, eb, ea, le-leb record_length (length s) l, record_bytes_law i) (put_all_law (fields_of i) [] s 0 record_length refl refl)
 
 pub write_none : (i : Instr) (s : List ℕ) → length s < record_length → s ≡ written i s
 unfolding written

@@ -8,7 +8,6 @@ use Rattle.definitions.specs.Instr.{Instr, record_length, record_bytes}
 use Rattle.definitions.specs.Listing.{front_length, listing_length, listing_front, count_of, record_limit}
 use Rattle.instr.specs.declared.tables.Row.{Row}
 use Rattle.instr.specs.declared.records.Record.{Record}
-use Rattle.instr.specs.declared.records.Field.{Field}
 use Rattle.instr.specs.declared.refusals.Refusal.{Refusal}
 use Rattle.instr.specs.Refusals.{number_of}
 
@@ -19,6 +18,12 @@ row_is r = record { small = r.small; first = r.first; second = r.second; line = 
 -- a record of the code
 abbrev pub instr_of : Record → Instr
 instr_of r = record { tag = r.tag; small = r.small; first = r.first; second = r.second; line = r.line; flags = r.flags; value = r.value; node = r.node }
+
+-- a field on its way into bytes: where it begins, how many bytes it has, and what it holds
+pub record Field : Type 0 where
+  pub at : ℕ
+  pub width : ℕ
+  pub value : ℕ
 
 -- the fields of a record, each with its place, its width and its value
 abbrev pub slot : (at width value : ℕ) → Field

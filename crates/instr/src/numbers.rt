@@ -36,7 +36,7 @@ pub(crate) fn number_after(s: &[u8], at: usize, k: usize, w: usize) -> u64
 }
 
 // The fast form, for W bytes that are in the slice: the compiler makes one load of them.
-pub fn number_inside<const W: usize>(s: &[u8], at: usize) -> u64
+pub(crate) fn number_inside<const W: usize>(s: &[u8], at: usize) -> u64
     requires { (at + W ≤ length s.now) × (W ≤ 8) }
     ensures { (result ≡ number W s.now at) × (result < 256 ^ W) }
 {
@@ -85,6 +85,21 @@ pub fn u64_at(s: &[u8], at: usize) -> u64
     number_at::<8>(s, at)
 }
 
+// The same two for bytes that are in the slice.
+pub fn u16_inside(s: &[u8], at: usize) -> u16
+    requires { at + 2 ≤ length s.now }
+    ensures { (result ≡ number 2 s.now at) × (result < 2 ^ 16) }
+{
+    number_inside::<2>(s, at) as u16
+}
+
+pub fn u32_inside(s: &[u8], at: usize) -> usize
+    requires { at + 4 ≤ length s.now }
+    ensures { (result ≡ number 4 s.now at) × (result < 2 ^ 32) }
+{
+    number_inside::<4>(s, at) as usize
+}
+
 // A number in w bytes of a part, from `at` on: the last byte first.
 pub fn put_number(part: &mut [u8], at: usize, w: usize, v: u64)
     requires { at + w ≤ length part.old }
@@ -95,4 +110,33 @@ pub fn put_number(part: &mut [u8], at: usize, w: usize, v: u64)
         part[at + w - 1 - k] = (rest % 256) as u8;
         rest /= 256;
     }
+}
+
+// The same by a number of each type: one store.
+pub fn put_u8(part: &mut [u8], at: usize, v: u8)
+    requires { at + 1 ≤ length part.old }
+    ensures { part.new ≡ stored at 1 v part.old }
+{
+    part[at] = v;
+}
+
+pub fn put_u16(part: &mut [u8], at: usize, v: u16)
+    requires { at + 2 ≤ length part.old }
+    ensures { part.new ≡ stored at 2 v part.old }
+{
+    part[at..at + 2].copy_from_slice(&v.to_be_bytes());
+}
+
+pub fn put_u32(part: &mut [u8], at: usize, v: u32)
+    requires { at + 4 ≤ length part.old }
+    ensures { part.new ≡ stored at 4 v part.old }
+{
+    part[at..at + 4].copy_from_slice(&v.to_be_bytes());
+}
+
+pub fn put_u64(part: &mut [u8], at: usize, v: u64)
+    requires { at + 8 ≤ length part.old }
+    ensures { part.new ≡ stored at 8 v part.old }
+{
+    part[at..at + 8].copy_from_slice(&v.to_be_bytes());
 }

@@ -1,7 +1,7 @@
 // A record of a listing, and its bytes.
 ghost use Rattle.std.specs.Prelude.{◌≡◌, ◌+◌, ◌≤◌, leb, length};
 ghost use Rattle.definitions.specs.Instr.{record_length, record_at, good_record};
-ghost use Rattle.instr.specs.Values.{instr_of, fields_of, written};
+ghost use Rattle.instr.specs.Values.{instr_of, written};
 
 use crate::{numbers, tables};
 
@@ -38,38 +38,6 @@ impl Record {
     pub const NODE: usize = 18;
 }
 
-// A field on its way into bytes: where it begins, how many bytes it has, and what it holds.
-#[derive(Clone, Copy)]
-struct Field {
-    at: usize,
-    width: usize,
-    value: u64,
-}
-
-impl Field {
-    fn new(at: usize, width: usize, value: u64) -> Self
-        ensures { result ≡ record { at = at; width = width; value = value } }
-    {
-        Field { at, width, value }
-    }
-}
-
-// The fields of a record, one after the other.
-fn fields_of(r: Record) -> [Field; 8]
-    ensures { result ≡ fields_of (instr_of r) }
-{
-    [
-        Field::new(Record::TAG, 1, u64::from(r.tag)),
-        Field::new(Record::SMALL, 1, u64::from(r.small)),
-        Field::new(Record::FIRST, 2, u64::from(r.first)),
-        Field::new(Record::SECOND, 2, u64::from(r.second)),
-        Field::new(Record::LINE, 2, u64::from(r.line)),
-        Field::new(Record::FLAGS, 2, u64::from(r.flags)),
-        Field::new(Record::VALUE, 8, r.value),
-        Field::new(Record::NODE, 4, u64::from(r.node)),
-    ]
-}
-
 // A record at the front of a part; what follows it stays. A part that is too short stays whole, and the answer is false.
 pub fn write_record(part: &mut [u8], r: Record) -> bool
     ensures { (result ≡ leb record_length (length part.old)) × (part.new ≡ written (instr_of r) part.old) }
@@ -77,9 +45,14 @@ pub fn write_record(part: &mut [u8], r: Record) -> bool
     if part.len() < Record::LENGTH {
         return false;
     }
-    for f in fields_of(r) {
-        numbers::put_number(part, f.at, f.width, f.value);
-    }
+    numbers::put_u8(part, Record::TAG, r.tag);
+    numbers::put_u8(part, Record::SMALL, r.small);
+    numbers::put_u16(part, Record::FIRST, r.first);
+    numbers::put_u16(part, Record::SECOND, r.second);
+    numbers::put_u16(part, Record::LINE, r.line);
+    numbers::put_u16(part, Record::FLAGS, r.flags);
+    numbers::put_u64(part, Record::VALUE, r.value);
+    numbers::put_u32(part, Record::NODE, r.node);
     true
 }
 

@@ -9,7 +9,7 @@ ghost use Rattle.instr.specs.Values.{row_is, counted};
 ghost use Rattle.resolve.specs.Mapping.{Mapped, map_field, map_fields, map_records, try_records, rewrite};
 ghost use Rattle.resolve.specs.Values.{extra_of, resolving};
 
-use instr::numbers::{number_inside, put_number};
+use instr::numbers::{put_u16, u16_inside};
 use instr::records::Record;
 use instr::refusals::{Reason, Refusal};
 use instr::tables::Row;
@@ -83,9 +83,9 @@ fn map_fields<M: Mapping>(
     requires row { row_is row ≡ row_of carrier.tag }
     ensures { answer result ≡ map_fields (M.maps mapping.now) carrier.start carrier.number (record_at listing.now at) }
 {
-    let first = number_inside::<2>(listing, at + Record::FIRST) as u16;
+    let first = u16_inside(listing, at + Record::FIRST);
     let first = map_field(mapping, row.first, carrier, Operand::First, first)?;
-    let second = number_inside::<2>(listing, at + Record::SECOND) as u16;
+    let second = u16_inside(listing, at + Record::SECOND);
     let second = map_field(mapping, row.second, carrier, Operand::Second, second)?;
     Ok((first, second))
 }
@@ -133,8 +133,8 @@ fn write_fields<M: Mapping>(mapping: &M, listing: &[u8], count: usize, out: &mut
                 number,
             };
             if let Ok((first, second)) = map_fields(mapping, row, carrier, listing, at) {
-                put_number(out, at + Record::FIRST, 2, u64::from(first));
-                put_number(out, at + Record::SECOND, 2, u64::from(second));
+                put_u16(out, at + Record::FIRST, first);
+                put_u16(out, at + Record::SECOND, second);
             }
         }
         offset += usize::from(tables::size_of(tag));

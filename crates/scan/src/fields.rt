@@ -1,7 +1,7 @@
 // A node or a run in a unit, its fields, and what is left of records and labels. None says only that this pass does not answer.
 ghost use Rattle.std.specs.Prelude.{◌≤◌, length};
 
-use instr::numbers::number_inside;
+use instr::numbers::u32_inside;
 use ir::expr::{CONST_BOOL, const_width};
 
 // What is left of records and labels.
@@ -83,7 +83,7 @@ impl Holder<'_> {
         ensures { IfSome result (λ r. (span self.now.unit.now self.now.end at ≡ ok r (at + 4)) × (at + 4 ≤ r) × (r ≤ self.now.end)) }
     {
         let first = self.skip(at, 4)?;
-        self.skip(first, number_inside::<4>(self.unit, at) as usize)
+        self.skip(first, u32_inside(self.unit, at))
     }
 
     // The same of a node, which has a kind. Nothing is found where no depth is left.

@@ -4,7 +4,7 @@ ghost use Rattle.scan.specs.Scanned.{default_count};
 
 use super::exprs::ITEMS;
 use super::fields::{Holder, Left};
-use instr::numbers::number_inside;
+use instr::numbers::u32_inside;
 use ir::stmt::StmtKind;
 
 // What a statement stands in, as far as break and continue ask: a switch is one that is in no loop.
@@ -289,7 +289,7 @@ impl Holder<'_> {
             cases,
             depth,
             within,
-            number_inside::<4>(self.unit, index) as usize,
+            u32_inside(self.unit, index),
             mark,
             left,
         )?;

@@ -186,9 +186,24 @@ module _ (depth : ℕ) (s : List ℕ) (end at : ℕ) (acc : Accepted (parse_expr
   reads : parse_expr depth s end at ≡ ok acc.0 stop
   reads = acc.2 ∙ ap (ok acc.0) (expr_at depth s end at acc.2).ends
 
-  -- what the records of three kinds are read from
+  -- what the records of some kinds are read from
   pub const_here : kind ≡ 2 → (at + 6 ≤ stop) × (get_or s (at + 5) 0 < 16)
   const_here k = let c = const_at depth s end at acc.0 stop reads k in (omega (arith, c.byte.fits), c.byte.small)
+
+  pub null_here : kind ≡ 3 → at + 6 ≤ stop
+  null_here k = let c = null_at depth s end at acc.0 stop reads k in omega (arith, c.weak.fits)
+
+  pub new_here : kind ≡ 4 → at + 9 ≤ stop
+  new_here k = let c = new_instance_at depth s end at acc.0 stop reads k in omega (arith, c.ends)
+
+  pub index_here : kind ≡ 8 → at + 10 ≤ stop
+  index_here k = let c = index_at depth s end at acc.0 stop reads k in omega (arith, c.one.head, c.one.tail)
+
+  pub cast_here : kind ≡ 10 → at + 10 ≤ stop
+  cast_here k = let c = dyn_cast_at depth s end at acc.0 stop reads k in omega (arith, c.one.head, c.one.tail)
+
+  pub local_here : kind ≡ 11 → at + 10 ≤ stop
+  local_here k = let c = local_at depth s end at acc.0 stop reads k in omega (arith, c.ends)
 
   pub construct_here : kind ≡ 5 → (at + 13 ≤ stop) × Accepted (exprs_from below s stop (at + 13))
   construct_here k =

@@ -10,7 +10,7 @@ use crate::places::{Nodes, end_of};
 use crate::refusals::require;
 use crate::sinks::Sink;
 use crate::tags::invoke_tag;
-use instr::numbers::{u16_at, u32_at};
+use instr::numbers::{u16_inside, u32_inside};
 use instr::refusals::{Reason, Refusal};
 use instr::tag::Tag;
 use ir::args::is_prvalue_ref;
@@ -35,9 +35,9 @@ fn invoke_value(s: &[u8], at: usize) -> usize
     ensures { result ≡ cond (slice_index s.now (at + 10) == 0) (number 4 s.now (at + 4)) (number 4 s.now at) }
 {
     if s[at + 10] == 0 {
-        u32_at(s, at + 4)
+        u32_inside(s, at + 4)
     } else {
-        u32_at(s, at)
+        u32_inside(s, at)
     }
 }
 
@@ -90,7 +90,7 @@ impl Nodes<'_> {
     {
         let s = self.unit;
         let flags = self.flags_of(at + 16 + usize::from(s[at + 11]));
-        let line = u16_at(s, at + 8);
+        let line = u16_inside(s, at + 8);
         let value = invoke_value(s, at);
         c.invoke(site, invoke_tag(s[at + 10]), exit, line, flags, value, sink);
     }

@@ -10,7 +10,7 @@ use crate::places::{Nodes, end_of};
 use crate::refusals::require;
 use crate::sinks::Sink;
 use crate::tags::{element_tag, intrinsic_small, intrinsic_tag, local_tag, null_tag, typed};
-use instr::numbers::{byte_at, u32_at};
+use instr::numbers::u32_inside;
 use instr::refusals::{Reason, Refusal};
 use instr::tag::Tag;
 use ir::expr::ExprKind;
@@ -21,13 +21,13 @@ pub(crate) fn intrinsic<S: Sink>(
     c: &mut Counters,
     sink: &mut S,
 ) -> Result<(), Refusal>
-    requires { (at + 8 ≤ length s.now) × (slice_index s.now (at + 5) < 34) }
+    requires { (at + 12 ≤ length s.now) × (slice_index s.now (at + 5) < 34) }
     ensures { Emits S.emitted (intrinsic_code s.now at) c.old sink.old result c.new sink.new }
 {
     let code = usize::from(s[at + 5]);
     let fits = typed(code, usize::from(s[at + 6]), usize::from(s[at + 7]));
     require(fits, Reason::Intrinsic, at, 0)?;
-    let i = u32_at(s, at + 8);
+    let i = u32_inside(s, at + 8);
     c.plain(at, intrinsic_tag(code), intrinsic_small(code), i, sink);
     Ok(())
 }
@@ -41,7 +41,7 @@ impl Nodes<'_> {
     {
         let n = self.count(at + 13);
         require(n < 256, Reason::Construct, at, n)?;
-        c.plain(at, Tag::Construct, n, u32_at(self.unit, at + 5), sink);
+        c.plain(at, Tag::Construct, n, u32_inside(self.unit, at + 5), sink);
         Ok(())
     }
 
@@ -57,21 +57,21 @@ impl Nodes<'_> {
         match kind {
             ExprKind::Nop => c.plain(at, Tag::Nop, 0, 0, sink),
             ExprKind::Const => constant(s, at, c, sink),
-            ExprKind::Null => c.plain(at, null_tag(byte_at(s, at + 5)), 0, 0, sink),
-            ExprKind::NewInstance => c.plain(at, Tag::New, 0, u32_at(s, at + 5), sink),
+            ExprKind::Null => c.plain(at, null_tag(s[at + 5]), 0, 0, sink),
+            ExprKind::NewInstance => c.plain(at, Tag::New, 0, u32_inside(s, at + 5), sink),
             ExprKind::Construct => return self.inner(at).construct(at, c, sink),
             ExprKind::Assign => c.plain(at, Tag::Assign, 0, 0, sink),
             ExprKind::Index => {
-                let t = element_tag(byte_at(s, at + 5));
-                c.plain(at, t, 0, u32_at(s, at + 6), sink);
+                let t = element_tag(s[at + 5]);
+                c.plain(at, t, 0, u32_inside(s, at + 6), sink);
             }
             ExprKind::DynCast => {
-                let weak = usize::from(byte_at(s, at + 9));
-                c.plain(at, Tag::DynamicCast, weak, u32_at(s, at + 5), sink);
+                let weak = usize::from(s[at + 9]);
+                c.plain(at, Tag::DynamicCast, weak, u32_inside(s, at + 5), sink);
             }
             ExprKind::Local => {
-                let t = local_tag(byte_at(s, at + 5));
-                c.plain(at, t, 0, u32_at(s, at + 6), sink);
+                let t = local_tag(s[at + 5]);
+                c.plain(at, t, 0, u32_inside(s, at + 6), sink);
             }
             ExprKind::IntrinsicCall => return intrinsic(s, at, c, sink),
             ExprKind::Field

@@ -9,7 +9,7 @@ ghost use Rattle.steps.specs.Walked.{Emitted, element_code, const_code};
 use crate::counters::Counters;
 use crate::sinks::Sink;
 use crate::tags::const_tag;
-use instr::numbers::{byte_at, u16_at, u32_at, u64_at};
+use instr::numbers::{byte_at, u16_at, u32_at, u32_inside, u64_at};
 use instr::tables;
 use instr::tag::Tag;
 use ir::expr::const_width;
@@ -77,9 +77,9 @@ pub fn init_default<S: Sink>(s: &[u8], at: usize, c: &mut Counters, sink: &mut S
     requires { (at + 14 ≤ length s.now) × (slice_index s.now (at + 9) < 23) }
     ensures { Emitted S.emitted (emits (default_instrs at (number 4 s.now (at + 5)) (slice_index s.now (at + 9)) (number 4 s.now (at + 10)))) c.old sink.old c.new sink.new }
 {
-    let local = u32_at(s, at + 5);
+    let local = u32_inside(s, at + 5);
     let byte = usize::from(s[at + 9]);
-    let i = u32_at(s, at + 10);
+    let i = u32_inside(s, at + 10);
     if byte == 0 {
         return;
     }

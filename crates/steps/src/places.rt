@@ -4,14 +4,14 @@ ghost use Rattle.definitions.specs.Bytes.{number};
 ghost use Rattle.ir.specs.Places.{end_of};
 ghost use Rattle.steps.specs.Walked.{Accepted, list_of, exprs_from};
 
-use instr::numbers::u32_at;
+use instr::numbers::u32_inside;
 
 // Where the node or run at `at` ends.
 pub fn end_of(s: &[u8], at: usize) -> usize
     requires { at + 4 ≤ length s.now }
     ensures { result ≡ end_of s.now at }
 {
-    at + 4 + u32_at(s, at)
+    at + 4 + u32_inside(s, at)
 }
 
 // The nodes of a unit up to the end of what holds them, and the depth that is left for them. A place `at` says which one is meant.

@@ -83,6 +83,7 @@ fn masked(used: bool, v: usize) -> usize
 // Each takes the place of the node whose rule emits it.
 impl Counters {
     // A record with no label.
+    #[inline(always)]
     pub fn plain<S: Sink>(&mut self, at: usize, tag: Tag, small: usize, value: usize, sink: &mut S)
         ensures { Emitted S.emitted (act (Action.emit (plain at (byte_of tag) small value))) self.old sink.old self.new sink.new }
     {
@@ -96,6 +97,7 @@ impl Counters {
     }
 
     // With one label.
+    #[inline(always)]
     pub fn jump<S: Sink>(&mut self, at: usize, tag: Tag, to: usize, sink: &mut S)
         ensures { Emitted S.emitted (jump at (byte_of tag) to) self.old sink.old self.new sink.new }
     {

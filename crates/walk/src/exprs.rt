@@ -1,6 +1,6 @@
 // Expressions: one cycle of calls, in which the depth that is left falls.
 use super::holders::Holder;
-use instr::numbers::{u16_at, u32_at};
+use instr::numbers::{u16_inside, u32_inside};
 use instr::refusals::Refusal;
 use instr::tag::Tag;
 use ir::expr::ExprKind;
@@ -109,7 +109,7 @@ impl Holder<'_> {
     {
         let below = self.inner(at);
         let form = usize::from(self.nodes.unit[at + 5]);
-        let name = u32_at(self.nodes.unit, at + 6);
+        let name = u32_inside(self.nodes.unit, at + 6);
         let first = at + 10;
         if form == 0 {
             c.plain(at, Tag::StructField, 0, name, sink);
@@ -194,8 +194,8 @@ impl Holder<'_> {
         let below = self.inner(at);
         let first = at + 5;
         let second = end_of(self.nodes.unit, first);
-        let name = u32_at(self.nodes.unit, second);
-        let line = u16_at(self.nodes.unit, second + 4);
+        let name = u32_inside(self.nodes.unit, second);
+        let line = u16_inside(self.nodes.unit, second + 4);
         let context = c.new_label(at, marks)?;
         c.jump(at, Tag::Context, context, sink);
         below.node(first, c, sink, marks)?;

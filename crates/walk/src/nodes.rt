@@ -5,7 +5,7 @@ ghost use Rattle.ir.specs.declared.Class.TheVariants.{Statement};
 ghost use Rattle.steps.specs.Walked.{Accepted, fill_code, span_of, Did};
 
 use super::holders::Holder;
-use instr::numbers::u32_at;
+use instr::numbers::u32_inside;
 use instr::refusals::{Reason, Refusal};
 use instr::tag::Tag;
 use ir::stmt::StmtKind;
@@ -260,7 +260,7 @@ impl Holder<'_> {
         let below = self.inner(at);
         let first = at + 9;
         let second = end_of(self.nodes.unit, first);
-        let typ = u32_at(self.nodes.unit, at + 5);
+        let typ = u32_inside(self.nodes.unit, at + 5);
         let finish = c.new_label(at, marks)?;
         let label = c.new_label(at, marks)?;
         c.switch(at, typ, label, sink);
@@ -287,7 +287,7 @@ impl Holder<'_> {
     {
         let stop = end_of(self.nodes.unit, at + 5);
         let list = self.up_to(stop);
-        let index = u32_at(self.nodes.unit, at);
+        let index = u32_inside(self.nodes.unit, at);
         let there = usize::from(self.nodes.unit[at + 4]);
         let n = list.count_arms(at + 9);
         if is_mid(there, index, n) {
@@ -378,7 +378,7 @@ impl Holder<'_> {
         ensures { Did S.emitted (code_of (λ cs. mid_code cs site first (number 4 self.now.nodes.unit.now at) (default_of 1 self.now.nodes.depth self.now.nodes.unit.now self.now.nodes.end (end_of self.now.nodes.unit.now (at + 5))) (span_of self.now.span)) (cases_from self.now.nodes.depth self.now.nodes.unit.now at)) c.old sink.old marks.old result c.new sink.new marks.new }
     {
         let list = end_of(self.nodes.unit, at + 5);
-        let index = u32_at(self.nodes.unit, at);
+        let index = u32_inside(self.nodes.unit, at);
         let one = at + 9;
         let body = c.new_label(site, marks)?;
         c.new_labels(site, n, marks)?;
@@ -468,8 +468,8 @@ impl Holder<'_> {
     {
         let below = self.inner(at);
         let first = at + 17;
-        let local = u32_at(self.nodes.unit, at + 5);
-        let typ = u32_at(self.nodes.unit, at + 9);
+        let local = u32_inside(self.nodes.unit, at + 5);
+        let typ = u32_inside(self.nodes.unit, at + 9);
         if first < below.nodes.end {
             let n = below.nodes.count(first);
             c.plain(at, Tag::ArrayResize, 0, typ, sink);

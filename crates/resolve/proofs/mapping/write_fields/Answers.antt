@@ -14,7 +14,7 @@ loop-number-init g c =
 pub loop-number-preserved : goal.loop-number-preserved
 loop-number-preserved g c =
     elim c.if-row.branch [
-      | then-row+in-Ok w ↦ rw w.out-is (coding_fields c.loop-number.invariant c.loop-number-test.true w.in-Ok.first w.in-Ok.second (fields_made _ _ _ _ _ _ w.in-Ok.ensures) _ (size_at _ _ (c.from-offset.ensures ∙ c.size_of.ensures.0)) _ _ (w.put_number-in-Ok.auto.part ∙ w.put_number.auto.part) (rw w.from.ensures at w.put_number.ensures) (rw w.from-in-Ok.ensures at w.put_number-in-Ok.ensures))
+      | then-row+in-Ok w ↦ rw w.out-is (coding_fields c.loop-number.invariant c.loop-number-test.true w.in-Ok.first w.in-Ok.second (fields_made _ _ _ _ _ _ w.in-Ok.ensures) _ (size_at _ _ (c.from-offset.ensures ∙ c.size_of.ensures.0)) _ _ (w.put_u16-in-Ok.auto.part ∙ w.put_u16.auto.part) w.put_u16.ensures w.put_u16-in-Ok.ensures)
       | then-row+in_default w ↦ coding_refused _ c.loop-number.invariant c.loop-number-test.true c.requires.checked _ (fields_refused _ _ _ _ _ w.in_default.ensures)
       | else-row w ↦ rw w.out-is (coding_plain c.loop-number.invariant c.loop-number-test.true _ (plain _ _ _ _ _ _ (tag_at _ _) c.row_of-row.ensures w.if-row.false) (size_at _ _ (c.from-offset.ensures ∙ c.size_of.ensures.0)))
     ]

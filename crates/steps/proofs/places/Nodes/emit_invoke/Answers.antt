@@ -12,4 +12,4 @@ flags_of-flags-requires g c =
     record { accepted = k.0; at_le_end = k.1 }
 
 pub returns : goal.returns
-returns g c = invoke_law _ _ _ _ _ _ (c.flags_of-flags.ensures ∙ ap (λ x. flags_of (exprs_of (list_of (exprs_from c.args.self.now.depth c.args.self.now.unit.now c.args.self.now.end (c.args.at + 16 + x)))) 1 % 2 ^ 16) c.from.ensures) c.u16_at-line.ensures.0 _ _ c.invoke_tag.ensures c.invoke_value-value.ensures c.invoke.ensures
+returns g c = invoke_law _ _ _ _ _ _ (c.flags_of-flags.ensures ∙ ap (λ x. flags_of (exprs_of (list_of (exprs_from c.args.self.now.depth c.args.self.now.unit.now c.args.self.now.end (c.args.at + 16 + x)))) 1 % 2 ^ 16) c.from.ensures) c.u16_inside-line.ensures.0 _ _ c.invoke_tag.ensures c.invoke_value-value.ensures c.invoke.ensures

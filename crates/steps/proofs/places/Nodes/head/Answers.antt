@@ -1,6 +1,6 @@
-use Rattle.std.proofs.Common.{arith}
+use Rattle.std.proofs.Common.{arith, refl}
 use Rattle.steps.proofs.RunLaws.{expr_placed}
-use Rattle.steps.proofs.HeadLaws.{const_here, construct_here, intrinsic_here, nop_head, const_head, null_head, new_head, construct_head, assign_head, index_head, cast_head, local_head, intrinsic_head, label_head, no_head}
+use Rattle.steps.proofs.HeadLaws.{const_here, null_here, new_here, index_here, cast_here, local_here, construct_here, intrinsic_here, nop_head, const_head, null_head, new_head, construct_head, assign_head, index_head, cast_head, local_head, intrinsic_head, label_head, no_head}
 use Rattle.ir.proofs.KindLaws.{expr_is}
 use Rattle.steps.proofs.places.Nodes.head.Goals as goal
 
@@ -47,10 +47,10 @@ pub returns-in-Const : goal.returns-in-Const
 returns-in-Const g c = const_head _ _ _ _ (expr_is c.in-Ok.ensures c.in-Const.is) c.constant.ensures
 
 pub returns-in-Null : goal.returns-in-Null
-returns-in-Null g c = null_head _ _ _ _ _ _ (expr_is c.in-Ok.ensures c.in-Null.is) c.null_tag.ensures c.byte_at.ensures c.plain-in-Null.ensures
+returns-in-Null g c = null_head _ _ _ _ _ _ (expr_is c.in-Ok.ensures c.in-Null.is) c.null_tag.ensures refl c.plain-in-Null.ensures
 
 pub returns-in-NewInstance : goal.returns-in-NewInstance
-returns-in-NewInstance g c = new_head _ _ _ _ _ (expr_is c.in-Ok.ensures c.in-NewInstance.is) c.u32_at.ensures.0 c.plain-in-NewInstance.ensures
+returns-in-NewInstance g c = new_head _ _ _ _ _ (expr_is c.in-Ok.ensures c.in-NewInstance.is) c.u32_inside.ensures.0 c.plain-in-NewInstance.ensures
 
 pub returns-in-Construct : goal.returns-in-Construct
 returns-in-Construct g c = construct_head _ _ _ _ _ (expr_is c.in-Ok.ensures c.in-Construct.is) c.inner.ensures.1 (rw (c.inner.ensures.0, c.inner.ensures.2) at c.construct.ensures)
@@ -59,13 +59,13 @@ pub returns-in-Assign : goal.returns-in-Assign
 returns-in-Assign g c = assign_head _ _ _ _ (expr_is c.in-Ok.ensures c.in-Assign.is) c.plain-in-Assign.ensures
 
 pub returns-in-Index : goal.returns-in-Index
-returns-in-Index g c = index_head _ _ _ _ _ _ _ (expr_is c.in-Ok.ensures c.in-Index.is) c.element_tag-t.ensures c.byte_at-in-Index.ensures c.u32_at-in-Index.ensures.0 c.plain-in-Index.ensures
+returns-in-Index g c = index_head _ _ _ _ _ _ _ (expr_is c.in-Ok.ensures c.in-Index.is) c.element_tag-t.ensures refl c.u32_inside-in-Index.ensures.0 c.plain-in-Index.ensures
 
 pub returns-in-DynCast : goal.returns-in-DynCast
-returns-in-DynCast g c = cast_head _ _ _ _ _ _ _ (expr_is c.in-Ok.ensures c.in-DynCast.is) c.from-weak.ensures c.byte_at-in-DynCast.ensures c.u32_at-in-DynCast.ensures.0 c.plain-in-DynCast.ensures
+returns-in-DynCast g c = cast_head _ _ _ _ _ _ _ (expr_is c.in-Ok.ensures c.in-DynCast.is) c.from-weak.ensures refl c.u32_inside-in-DynCast.ensures.0 c.plain-in-DynCast.ensures
 
 pub returns-in-Local : goal.returns-in-Local
-returns-in-Local g c = local_head _ _ _ _ _ _ _ (expr_is c.in-Ok.ensures c.in-Local.is) c.local_tag-t.ensures c.byte_at-in-Local.ensures c.u32_at-in-Local.ensures.0 c.plain-in-Local.ensures
+returns-in-Local g c = local_head _ _ _ _ _ _ _ (expr_is c.in-Ok.ensures c.in-Local.is) c.local_tag-t.ensures refl c.u32_inside-in-Local.ensures.0 c.plain-in-Local.ensures
 
 pub returns-in-IntrinsicCall : goal.returns-in-IntrinsicCall
 returns-in-IntrinsicCall g c = intrinsic_head _ _ _ _ (expr_is c.in-Ok.ensures c.in-IntrinsicCall.is) c.intrinsic.ensures
@@ -78,3 +78,27 @@ returns-in_default g c = no_head _ _ _ _ c.in_default.ensures.1
 
 pub inner-requires : goal.inner-requires
 inner-requires g c = (omega (arith, (expr_placed _ _ _ _ c.requires.2).0), omega (arith, (expr_placed _ _ _ _ c.requires.2).0, c.args.self.now.inside), omega (arith, (expr_placed _ _ _ _ c.requires.2).0, c.args.self.now.inside))
+
+pub bounds-s-at-in-Null : goal.bounds-s-at-in-Null
+bounds-s-at-in-Null g c = omega (arith, null_here _ _ _ _ c.requires (expr_is c.in-Ok.ensures c.in-Null.is), (expr_placed _ _ _ _ c.requires.2).0, c.args.self.now.inside)
+
+pub u32_inside-requires : goal.u32_inside-requires
+u32_inside-requires g c = omega (arith, new_here _ _ _ _ c.requires (expr_is c.in-Ok.ensures c.in-NewInstance.is), (expr_placed _ _ _ _ c.requires.2).0, c.args.self.now.inside)
+
+pub bounds-s-at-in-Index : goal.bounds-s-at-in-Index
+bounds-s-at-in-Index g c = omega (arith, index_here _ _ _ _ c.requires (expr_is c.in-Ok.ensures c.in-Index.is), (expr_placed _ _ _ _ c.requires.2).0, c.args.self.now.inside)
+
+pub u32_inside-requires-in-Index : goal.u32_inside-requires-in-Index
+u32_inside-requires-in-Index g c = omega (arith, index_here _ _ _ _ c.requires (expr_is c.in-Ok.ensures c.in-Index.is), (expr_placed _ _ _ _ c.requires.2).0, c.args.self.now.inside)
+
+pub bounds-s-at-in-DynCast : goal.bounds-s-at-in-DynCast
+bounds-s-at-in-DynCast g c = omega (arith, cast_here _ _ _ _ c.requires (expr_is c.in-Ok.ensures c.in-DynCast.is), (expr_placed _ _ _ _ c.requires.2).0, c.args.self.now.inside)
+
+pub u32_inside-requires-in-DynCast : goal.u32_inside-requires-in-DynCast
+u32_inside-requires-in-DynCast g c = omega (arith, cast_here _ _ _ _ c.requires (expr_is c.in-Ok.ensures c.in-DynCast.is), (expr_placed _ _ _ _ c.requires.2).0, c.args.self.now.inside)
+
+pub bounds-s-at-in-Local : goal.bounds-s-at-in-Local
+bounds-s-at-in-Local g c = omega (arith, local_here _ _ _ _ c.requires (expr_is c.in-Ok.ensures c.in-Local.is), (expr_placed _ _ _ _ c.requires.2).0, c.args.self.now.inside)
+
+pub u32_inside-requires-in-Local : goal.u32_inside-requires-in-Local
+u32_inside-requires-in-Local g c = omega (arith, local_here _ _ _ _ c.requires (expr_is c.in-Ok.ensures c.in-Local.is), (expr_placed _ _ _ _ c.requires.2).0, c.args.self.now.inside)

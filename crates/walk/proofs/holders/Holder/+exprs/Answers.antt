@@ -65,32 +65,38 @@ closure-inner-below-requires g t c = inner_fits _ _ _ _ c.requires.accepted c.ar
 pub closure-end_of-second-requires : goal.closure-end_of-second-requires
 closure-end_of-second-requires g t c = let k = closure_here _ _ _ _ c.requires.accepted _ _ _ c.inner-below.ensures.node (span_of c.args.self.now.span) _ _ _ refl refl refl c.requires.at_value in omega (arith, k.one, (expr_placed _ _ _ _ c.requires.accepted.2).0, c.args.self.now.nodes.inside)
 
+pub closure-u32_inside-name-requires : goal.closure-u32_inside-name-requires
+closure-u32_inside-name-requires g t c = let k = closure_here _ _ _ _ c.requires.accepted _ _ _ c.inner-below.ensures.node (span_of c.args.self.now.span) _ _ _ c.end_of-second.ensures refl refl c.requires.at_value in omega (arith, k.fits, c.inner-below.ensures.node, (expr_placed _ _ _ _ c.requires.accepted.2).0, c.args.self.now.nodes.inside)
+
+pub closure-u16_inside-line-requires : goal.closure-u16_inside-line-requires
+closure-u16_inside-line-requires g t c = let k = closure_here _ _ _ _ c.requires.accepted _ _ _ c.inner-below.ensures.node (span_of c.args.self.now.span) _ _ _ c.end_of-second.ensures refl refl c.requires.at_value in omega (arith, k.fits, c.inner-below.ensures.node, (expr_placed _ _ _ _ c.requires.accepted.2).0, c.args.self.now.nodes.inside)
+
 pub closure-overflow_add-second : goal.closure-overflow_add-second
 closure-overflow_add-second g t c = let k = closure_here _ _ _ _ c.requires.accepted _ _ _ c.inner-below.ensures.node (span_of c.args.self.now.span) _ _ _ c.end_of-second.ensures refl refl c.requires.at_value in omega (arith, k.fits, c.inner-below.ensures.node, (expr_placed _ _ _ _ c.requires.accepted.2).0, c.args.self.now.nodes.inside, c.ranges)
 
 pub closure-returns-in_err-context : goal.closure-returns-in_err-context
-closure-returns-in_err-context g t c = let k = closure_here _ _ _ _ c.requires.accepted _ _ _ c.inner-below.ensures.node (span_of c.args.self.now.span) _ _ _ c.end_of-second.ensures c.u32_at-name.ensures.0 c.u16_at-line.ensures.0 c.requires.at_value in exit _ _ c.from_residual.ensures.1 _ (recode k.code (unmade _ _ c.in_err-context.ensures))
+closure-returns-in_err-context g t c = let k = closure_here _ _ _ _ c.requires.accepted _ _ _ c.inner-below.ensures.node (span_of c.args.self.now.span) _ _ _ c.end_of-second.ensures c.u32_inside-name.ensures.0 c.u16_inside-line.ensures.0 c.requires.at_value in exit _ _ c.from_residual.ensures.1 _ (recode k.code (unmade _ _ c.in_err-context.ensures))
 
 pub closure-node-requires : goal.closure-node-requires
-closure-node-requires g t c = let k = closure_here _ _ _ _ c.requires.accepted _ _ _ c.inner-below.ensures.node (span_of c.args.self.now.span) _ _ _ c.end_of-second.ensures c.u32_at-name.ensures.0 c.u16_at-line.ensures.0 c.requires.at_value in λ _ outlives. (omega (arith, (expr_placed _ _ _ _ c.requires.accepted.2).0, c.inner-below.ensures.node), (outlives, k.one.reads))
+closure-node-requires g t c = let k = closure_here _ _ _ _ c.requires.accepted _ _ _ c.inner-below.ensures.node (span_of c.args.self.now.span) _ _ _ c.end_of-second.ensures c.u32_inside-name.ensures.0 c.u16_inside-line.ensures.0 c.requires.at_value in λ _ outlives. (omega (arith, (expr_placed _ _ _ _ c.requires.accepted.2).0, c.inner-below.ensures.node), (outlives, k.one.reads))
 
 pub closure-returns-in_err-node : goal.closure-returns-in_err-node
-closure-returns-in_err-node g t c = let k = closure_here _ _ _ _ c.requires.accepted _ _ _ c.inner-below.ensures.node (span_of c.args.self.now.span) _ _ _ c.end_of-second.ensures c.u32_at-name.ensures.0 c.u16_at-line.ensures.0 c.requires.at_value in exit _ _ c.from_residual-in_err-node.ensures.1 _ (recode k.code (made _ _ c.in_ok-context.ensures (both (emitted c.jump.ensures) (halt c.in_err-node.ensures _))))
+closure-returns-in_err-node g t c = let k = closure_here _ _ _ _ c.requires.accepted _ _ _ c.inner-below.ensures.node (span_of c.args.self.now.span) _ _ _ c.end_of-second.ensures c.u32_inside-name.ensures.0 c.u16_inside-line.ensures.0 c.requires.at_value in exit _ _ c.from_residual-in_err-node.ensures.1 _ (recode k.code (made _ _ c.in_ok-context.ensures (both (emitted c.jump.ensures) (halt c.in_err-node.ensures _))))
 
 pub closure-returns-in_err-past : goal.closure-returns-in_err-past
-closure-returns-in_err-past g t c = let k = closure_here _ _ _ _ c.requires.accepted _ _ _ c.inner-below.ensures.node (span_of c.args.self.now.span) _ _ _ c.end_of-second.ensures c.u32_at-name.ensures.0 c.u16_at-line.ensures.0 c.requires.at_value in exit _ _ c.from_residual-in_err-past.ensures.1 _ (recode k.code (made _ _ c.in_ok-context.ensures (both (emitted c.jump.ensures) (both c.in_ok-node.ensures (both (marked c.mark_label.ensures c.mark_label.auto.marks) (unmade _ _ c.in_err-past.ensures))))))
+closure-returns-in_err-past g t c = let k = closure_here _ _ _ _ c.requires.accepted _ _ _ c.inner-below.ensures.node (span_of c.args.self.now.span) _ _ _ c.end_of-second.ensures c.u32_inside-name.ensures.0 c.u16_inside-line.ensures.0 c.requires.at_value in exit _ _ c.from_residual-in_err-past.ensures.1 _ (recode k.code (made _ _ c.in_ok-context.ensures (both (emitted c.jump.ensures) (both c.in_ok-node.ensures (both (marked c.mark_label.ensures c.mark_label.auto.marks) (unmade _ _ c.in_err-past.ensures))))))
 
 pub closure-overflow_add-second-2 : goal.closure-overflow_add-second-2
-closure-overflow_add-second-2 g t c = let k = closure_here _ _ _ _ c.requires.accepted _ _ _ c.inner-below.ensures.node (span_of c.args.self.now.span) _ _ _ c.end_of-second.ensures c.u32_at-name.ensures.0 c.u16_at-line.ensures.0 c.requires.at_value in omega (arith, k.fits, c.inner-below.ensures.node, (expr_placed _ _ _ _ c.requires.accepted.2).0, c.args.self.now.nodes.inside, c.ranges)
+closure-overflow_add-second-2 g t c = let k = closure_here _ _ _ _ c.requires.accepted _ _ _ c.inner-below.ensures.node (span_of c.args.self.now.span) _ _ _ c.end_of-second.ensures c.u32_inside-name.ensures.0 c.u16_inside-line.ensures.0 c.requires.at_value in omega (arith, k.fits, c.inner-below.ensures.node, (expr_placed _ _ _ _ c.requires.accepted.2).0, c.args.self.now.nodes.inside, c.ranges)
 
 pub closure-exprs-requires : goal.closure-exprs-requires
-closure-exprs-requires g t c = let k = closure_here _ _ _ _ c.requires.accepted _ _ _ c.inner-below.ensures.node (span_of c.args.self.now.span) _ _ _ c.end_of-second.ensures c.u32_at-name.ensures.0 c.u16_at-line.ensures.0 c.requires.at_value in λ _ outlives. (omega (arith, (expr_placed _ _ _ _ c.requires.accepted.2).0), (outlives, (k.run, k.fits)))
+closure-exprs-requires g t c = let k = closure_here _ _ _ _ c.requires.accepted _ _ _ c.inner-below.ensures.node (span_of c.args.self.now.span) _ _ _ c.end_of-second.ensures c.u32_inside-name.ensures.0 c.u16_inside-line.ensures.0 c.requires.at_value in λ _ outlives. (omega (arith, (expr_placed _ _ _ _ c.requires.accepted.2).0), (outlives, (k.run, k.fits)))
 
 pub closure-returns-in_err-exprs : goal.closure-returns-in_err-exprs
-closure-returns-in_err-exprs g t c = let k = closure_here _ _ _ _ c.requires.accepted _ _ _ c.inner-below.ensures.node (span_of c.args.self.now.span) _ _ _ c.end_of-second.ensures c.u32_at-name.ensures.0 c.u16_at-line.ensures.0 c.requires.at_value in exit _ _ c.from_residual-in_err-exprs.ensures.1 _ (recode k.code (made _ _ c.in_ok-context.ensures (both (emitted c.jump.ensures) (both c.in_ok-node.ensures (both (marked c.mark_label.ensures c.mark_label.auto.marks) (made _ _ c.in_ok-past.ensures (both (emitted (rw c.invoke_tag.ensures at c.invoke.ensures)) (halt c.in_err-exprs.ensures _))))))))
+closure-returns-in_err-exprs g t c = let k = closure_here _ _ _ _ c.requires.accepted _ _ _ c.inner-below.ensures.node (span_of c.args.self.now.span) _ _ _ c.end_of-second.ensures c.u32_inside-name.ensures.0 c.u16_inside-line.ensures.0 c.requires.at_value in exit _ _ c.from_residual-in_err-exprs.ensures.1 _ (recode k.code (made _ _ c.in_ok-context.ensures (both (emitted c.jump.ensures) (both c.in_ok-node.ensures (both (marked c.mark_label.ensures c.mark_label.auto.marks) (made _ _ c.in_ok-past.ensures (both (emitted (rw c.invoke_tag.ensures at c.invoke.ensures)) (halt c.in_err-exprs.ensures _))))))))
 
 pub closure-returns : goal.closure-returns
-closure-returns g t c = let k = closure_here _ _ _ _ c.requires.accepted _ _ _ c.inner-below.ensures.node (span_of c.args.self.now.span) _ _ _ c.end_of-second.ensures c.u32_at-name.ensures.0 c.u16_at-line.ensures.0 c.requires.at_value in recode k.code (made _ _ c.in_ok-context.ensures (both (emitted c.jump.ensures) (both c.in_ok-node.ensures (both (marked c.mark_label.ensures c.mark_label.auto.marks) (made _ _ c.in_ok-past.ensures (both (emitted (rw c.invoke_tag.ensures at c.invoke.ensures)) (both c.in_ok-exprs.ensures (both (emitted c.plain.ensures) (marked c.mark_label-2.ensures c.mark_label-2.auto.marks)))))))))
+closure-returns g t c = let k = closure_here _ _ _ _ c.requires.accepted _ _ _ c.inner-below.ensures.node (span_of c.args.self.now.span) _ _ _ c.end_of-second.ensures c.u32_inside-name.ensures.0 c.u16_inside-line.ensures.0 c.requires.at_value in recode k.code (made _ _ c.in_ok-context.ensures (both (emitted c.jump.ensures) (both c.in_ok-node.ensures (both (marked c.mark_label.ensures c.mark_label.auto.marks) (made _ _ c.in_ok-past.ensures (both (emitted (rw c.invoke_tag.ensures at c.invoke.ensures)) (both c.in_ok-exprs.ensures (both (emitted c.plain.ensures) (marked c.mark_label-2.ensures c.mark_label-2.auto.marks)))))))))
 
 pub exprs-loop-item-init : goal.exprs-loop-item-init
 exprs-loop-item-init g t c = rest_start _ _ _ _ _ _ _ c.requires.at_le_end c.requires.accepted
@@ -138,23 +144,26 @@ field-inner-below-requires g t c = inner_fits _ _ _ _ c.requires.accepted c.args
 pub field-bounds-self-at : goal.field-bounds-self-at
 field-bounds-self-at g t c = let k = field_here _ _ _ _ c.requires.accepted _ _ _ c.inner-below.ensures.node _ _ refl refl c.requires.at_value in omega (arith, k.one, (expr_placed _ _ _ _ c.requires.accepted.2).0, c.args.self.now.nodes.inside)
 
+pub field-u32_inside-name-requires : goal.field-u32_inside-name-requires
+field-u32_inside-name-requires g t c = let k = field_here _ _ _ _ c.requires.accepted _ _ _ c.inner-below.ensures.node _ _ refl refl c.requires.at_value in omega (arith, k.one, c.inner-below.ensures.node, (expr_placed _ _ _ _ c.requires.accepted.2).0, c.args.self.now.nodes.inside)
+
 pub field-node-requires : goal.field-node-requires
-field-node-requires g t c = let k = field_here _ _ _ _ c.requires.accepted _ _ _ c.inner-below.ensures.node _ _ c.from-form.ensures c.u32_at-name.ensures.0 c.requires.at_value in λ _ outlives. (omega (arith, (expr_placed _ _ _ _ c.requires.accepted.2).0, c.inner-below.ensures.node), (outlives, k.one.reads))
+field-node-requires g t c = let k = field_here _ _ _ _ c.requires.accepted _ _ _ c.inner-below.ensures.node _ _ c.from-form.ensures c.u32_inside-name.ensures.0 c.requires.at_value in λ _ outlives. (omega (arith, (expr_placed _ _ _ _ c.requires.accepted.2).0, c.inner-below.ensures.node), (outlives, k.one.reads))
 
 pub field-returns-then-form-eq0 : goal.field-returns-then-form-eq0
-field-returns-then-form-eq0 g t c = let k = field_here _ _ _ _ c.requires.accepted _ _ _ c.inner-below.ensures.node _ _ c.from-form.ensures c.u32_at-name.ensures.0 c.requires.at_value in recode (k.code ∙ struct_field_law _ _ _ c.if-form-eq0.true) (both (emitted c.plain.ensures) c.node.ensures)
+field-returns-then-form-eq0 g t c = let k = field_here _ _ _ _ c.requires.accepted _ _ _ c.inner-below.ensures.node _ _ c.from-form.ensures c.u32_inside-name.ensures.0 c.requires.at_value in recode (k.code ∙ struct_field_law _ _ _ c.if-form-eq0.true) (both (emitted c.plain.ensures) c.node.ensures)
 
 pub field-returns-in_err-exit : goal.field-returns-in_err-exit
-field-returns-in_err-exit g t c = let k = field_here _ _ _ _ c.requires.accepted _ _ _ c.inner-below.ensures.node _ _ c.from-form.ensures c.u32_at-name.ensures.0 c.requires.at_value in exit _ _ c.from_residual.ensures.1 _ (recode (k.code ∙ object_field_law _ _ _ c.if-form-eq0.false) (unmade _ _ c.in_err-exit.ensures))
+field-returns-in_err-exit g t c = let k = field_here _ _ _ _ c.requires.accepted _ _ _ c.inner-below.ensures.node _ _ c.from-form.ensures c.u32_inside-name.ensures.0 c.requires.at_value in exit _ _ c.from_residual.ensures.1 _ (recode (k.code ∙ object_field_law _ _ _ c.if-form-eq0.false) (unmade _ _ c.in_err-exit.ensures))
 
 pub field-node-requires-2 : goal.field-node-requires-2
-field-node-requires-2 g t c = let k = field_here _ _ _ _ c.requires.accepted _ _ _ c.inner-below.ensures.node _ _ c.from-form.ensures c.u32_at-name.ensures.0 c.requires.at_value in λ _ outlives. (omega (arith, (expr_placed _ _ _ _ c.requires.accepted.2).0, c.inner-below.ensures.node), (outlives, k.one.reads))
+field-node-requires-2 g t c = let k = field_here _ _ _ _ c.requires.accepted _ _ _ c.inner-below.ensures.node _ _ c.from-form.ensures c.u32_inside-name.ensures.0 c.requires.at_value in λ _ outlives. (omega (arith, (expr_placed _ _ _ _ c.requires.accepted.2).0, c.inner-below.ensures.node), (outlives, k.one.reads))
 
 pub field-returns-in_err-node : goal.field-returns-in_err-node
-field-returns-in_err-node g t c = let k = field_here _ _ _ _ c.requires.accepted _ _ _ c.inner-below.ensures.node _ _ c.from-form.ensures c.u32_at-name.ensures.0 c.requires.at_value in exit _ _ c.from_residual-in_err-node.ensures.1 _ (recode (k.code ∙ object_field_law _ _ _ c.if-form-eq0.false) (made _ _ c.in_ok-exit.ensures (both (emitted c.jump.ensures) (both (emitted c.weak_to_ref.ensures) (halt c.in_err-node.ensures _)))))
+field-returns-in_err-node g t c = let k = field_here _ _ _ _ c.requires.accepted _ _ _ c.inner-below.ensures.node _ _ c.from-form.ensures c.u32_inside-name.ensures.0 c.requires.at_value in exit _ _ c.from_residual-in_err-node.ensures.1 _ (recode (k.code ∙ object_field_law _ _ _ c.if-form-eq0.false) (made _ _ c.in_ok-exit.ensures (both (emitted c.jump.ensures) (both (emitted c.weak_to_ref.ensures) (halt c.in_err-node.ensures _)))))
 
 pub field-returns : goal.field-returns
-field-returns g t c = let k = field_here _ _ _ _ c.requires.accepted _ _ _ c.inner-below.ensures.node _ _ c.from-form.ensures c.u32_at-name.ensures.0 c.requires.at_value in recode (k.code ∙ object_field_law _ _ _ c.if-form-eq0.false) (made _ _ c.in_ok-exit.ensures (both (emitted c.jump.ensures) (both (emitted c.weak_to_ref.ensures) (both c.in_ok-node.ensures (both (emitted c.plain-2.ensures) (marked c.mark_label.ensures c.mark_label.auto.marks))))))
+field-returns g t c = let k = field_here _ _ _ _ c.requires.accepted _ _ _ c.inner-below.ensures.node _ _ c.from-form.ensures c.u32_inside-name.ensures.0 c.requires.at_value in recode (k.code ∙ object_field_law _ _ _ c.if-form-eq0.false) (made _ _ c.in_ok-exit.ensures (both (emitted c.jump.ensures) (both (emitted c.weak_to_ref.ensures) (both c.in_ok-node.ensures (both (emitted c.plain-2.ensures) (marked c.mark_label.ensures c.mark_label.auto.marks))))))
 
 pub instance-inner-below-requires : goal.instance-inner-below-requires
 instance-inner-below-requires g t c = inner_fits _ _ _ _ c.requires.accepted c.args.self.now.nodes.inside

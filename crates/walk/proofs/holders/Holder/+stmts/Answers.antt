@@ -195,40 +195,40 @@ pub default-returns : goal.default-returns
 default-returns g t c = recode (default_code _ _ _ _ _ _ c.if-there-eq0.false (c.requires.default_here c.if-there-eq0.false)) c.stmts.ensures
 
 pub inside-mid-requires : goal.inside-mid-requires
-inside-mid-requires g t c = λ _ outlives. (omega arith, (outlives, (cased_one _ _ _ _ _ (λ z. is_there c.from-there.result c.u32_at-index.result c.count_arms-n.result _ c.is_mid.ensures c.if-is_mid.true (c.from-there.ensures ∙ z)) c.requires.cased, counted_at _ _ _ _ _ c.end_of-stop.ensures (rw (c.up_to-list.ensures.0, c.up_to-list.ensures.1, c.up_to-list.ensures.2) at c.count_arms-n.ensures))))
+inside-mid-requires g t c = λ _ outlives. (omega arith, (outlives, (cased_one _ _ _ _ _ (λ z. is_there c.from-there.result c.u32_inside-index.result c.count_arms-n.result _ c.is_mid.ensures c.if-is_mid.true (c.from-there.ensures ∙ z)) c.requires.cased, counted_at _ _ _ _ _ c.end_of-stop.ensures (rw (c.up_to-list.ensures.0, c.up_to-list.ensures.1, c.up_to-list.ensures.2) at c.count_arms-n.ensures))))
 
 pub inside-returns-then-is_mid : goal.inside-returns-then-is_mid
-inside-returns-then-is_mid g t c = let q = cased_at _ _ _ _ _ _ _ c.end_of-stop.ensures c.from-there.ensures c.u32_at-index.ensures.0 c.requires.cased in as_inside _ _ _ _ _ _ _ c.end_of-stop.ensures c.from-there.ensures c.u32_at-index.ensures.0 _ _ (span_of c.args.self.now.span) (inside_mid _ _ _ _ _ _ _ _ _ (span_of c.args.self.now.span) q.0 (rw (c.up_to-list.ensures.0, c.up_to-list.ensures.1, c.up_to-list.ensures.2) at c.count_arms-n.ensures) _ q.1 _ c.is_mid.ensures c.if-is_mid.true (mid_here _ _ _ _ _ _ c.end_of-stop.ensures c.u32_at-index.ensures.0 c.args.site c.args.first (span_of c.args.self.now.span) c.mid.ensures))
+inside-returns-then-is_mid g t c = let q = cased_at _ _ _ _ _ _ _ c.end_of-stop.ensures c.from-there.ensures c.u32_inside-index.ensures.0 c.requires.cased in as_inside _ _ _ _ _ _ _ c.end_of-stop.ensures c.from-there.ensures c.u32_inside-index.ensures.0 _ _ (span_of c.args.self.now.span) (inside_mid _ _ _ _ _ _ _ _ _ (span_of c.args.self.now.span) q.0 (rw (c.up_to-list.ensures.0, c.up_to-list.ensures.1, c.up_to-list.ensures.2) at c.count_arms-n.ensures) _ q.1 _ c.is_mid.ensures c.if-is_mid.true (mid_here _ _ _ _ _ _ c.end_of-stop.ensures c.u32_inside-index.ensures.0 c.args.site c.args.first (span_of c.args.self.now.span) c.mid.ensures))
 
 pub inside-returns-in_err-cases : goal.inside-returns-in_err-cases
-inside-returns-in_err-cases g t c = exit _ _ c.from_residual.ensures.1 _ (let q = cased_at _ _ _ _ _ _ _ c.end_of-stop.ensures c.from-there.ensures c.u32_at-index.ensures.0 c.requires.cased in as_inside _ _ _ _ _ _ _ c.end_of-stop.ensures c.from-there.ensures c.u32_at-index.ensures.0 _ _ (span_of c.args.self.now.span) (inside_refused _ _ _ _ _ _ _ _ _ (span_of c.args.self.now.span) q.0 (rw (c.up_to-list.ensures.0, c.up_to-list.ensures.1, c.up_to-list.ensures.2) at c.count_arms-n.ensures) _ q.1 _ c.is_mid.ensures c.if-is_mid.false (rw (c.up_to-list.ensures.0, c.up_to-list.ensures.1, c.up_to-list.ensures.2, c.up_to-list.ensures.3) at c.in_err-cases.ensures) refl))
+inside-returns-in_err-cases g t c = exit _ _ c.from_residual.ensures.1 _ (let q = cased_at _ _ _ _ _ _ _ c.end_of-stop.ensures c.from-there.ensures c.u32_inside-index.ensures.0 c.requires.cased in as_inside _ _ _ _ _ _ _ c.end_of-stop.ensures c.from-there.ensures c.u32_inside-index.ensures.0 _ _ (span_of c.args.self.now.span) (inside_refused _ _ _ _ _ _ _ _ _ (span_of c.args.self.now.span) q.0 (rw (c.up_to-list.ensures.0, c.up_to-list.ensures.1, c.up_to-list.ensures.2) at c.count_arms-n.ensures) _ q.1 _ c.is_mid.ensures c.if-is_mid.false (rw (c.up_to-list.ensures.0, c.up_to-list.ensures.1, c.up_to-list.ensures.2, c.up_to-list.ensures.3) at c.in_err-cases.ensures) refl))
 
 pub inside-returns-then-there-eq0 : goal.inside-returns-then-there-eq0
-inside-returns-then-there-eq0 g t c = let q = cased_at _ _ _ _ _ _ _ c.end_of-stop.ensures c.from-there.ensures c.u32_at-index.ensures.0 c.requires.cased in as_inside _ _ _ _ _ _ _ c.end_of-stop.ensures c.from-there.ensures c.u32_at-index.ensures.0 _ _ (span_of c.args.self.now.span) (inside_none _ _ _ _ _ _ _ _ _ (span_of c.args.self.now.span) q.0 (rw (c.up_to-list.ensures.0, c.up_to-list.ensures.1, c.up_to-list.ensures.2) at c.count_arms-n.ensures) _ q.1 _ c.is_mid.ensures c.if-is_mid.false (rw (c.up_to-list.ensures.0, c.up_to-list.ensures.1, c.up_to-list.ensures.2, c.up_to-list.ensures.3) at c.in_ok-cases.ensures) c.if-there-eq0.true)
+inside-returns-then-there-eq0 g t c = let q = cased_at _ _ _ _ _ _ _ c.end_of-stop.ensures c.from-there.ensures c.u32_inside-index.ensures.0 c.requires.cased in as_inside _ _ _ _ _ _ _ c.end_of-stop.ensures c.from-there.ensures c.u32_inside-index.ensures.0 _ _ (span_of c.args.self.now.span) (inside_none _ _ _ _ _ _ _ _ _ (span_of c.args.self.now.span) q.0 (rw (c.up_to-list.ensures.0, c.up_to-list.ensures.1, c.up_to-list.ensures.2) at c.count_arms-n.ensures) _ q.1 _ c.is_mid.ensures c.if-is_mid.false (rw (c.up_to-list.ensures.0, c.up_to-list.ensures.1, c.up_to-list.ensures.2, c.up_to-list.ensures.3) at c.in_ok-cases.ensures) c.if-there-eq0.true)
 
 pub inside-stmts-requires : goal.inside-stmts-requires
-inside-stmts-requires g t c = let q = cased_at _ _ _ _ _ _ _ c.end_of-stop.ensures c.from-there.ensures c.u32_at-index.ensures.0 c.requires.cased in let k = a_default _ _ _ _ _ c.if-there-eq0.false (q.1 c.if-there-eq0.false) in λ _ outlives. (omega arith, (outlives, (k.1, k.0)))
+inside-stmts-requires g t c = let q = cased_at _ _ _ _ _ _ _ c.end_of-stop.ensures c.from-there.ensures c.u32_inside-index.ensures.0 c.requires.cased in let k = a_default _ _ _ _ _ c.if-there-eq0.false (q.1 c.if-there-eq0.false) in λ _ outlives. (omega arith, (outlives, (k.1, k.0)))
 
 pub inside-returns : goal.inside-returns
-inside-returns g t c = let q = cased_at _ _ _ _ _ _ _ c.end_of-stop.ensures c.from-there.ensures c.u32_at-index.ensures.0 c.requires.cased in as_inside _ _ _ _ _ _ _ c.end_of-stop.ensures c.from-there.ensures c.u32_at-index.ensures.0 _ _ (span_of c.args.self.now.span) (inside_last _ _ _ _ _ _ _ _ _ (span_of c.args.self.now.span) q.0 (rw (c.up_to-list.ensures.0, c.up_to-list.ensures.1, c.up_to-list.ensures.2) at c.count_arms-n.ensures) _ q.1 _ c.is_mid.ensures c.if-is_mid.false (rw (c.up_to-list.ensures.0, c.up_to-list.ensures.1, c.up_to-list.ensures.2, c.up_to-list.ensures.3) at c.in_ok-cases.ensures) c.if-there-eq0.false c.plain.ensures c.stmts.ensures)
+inside-returns g t c = let q = cased_at _ _ _ _ _ _ _ c.end_of-stop.ensures c.from-there.ensures c.u32_inside-index.ensures.0 c.requires.cased in as_inside _ _ _ _ _ _ _ c.end_of-stop.ensures c.from-there.ensures c.u32_inside-index.ensures.0 _ _ (span_of c.args.self.now.span) (inside_last _ _ _ _ _ _ _ _ _ (span_of c.args.self.now.span) q.0 (rw (c.up_to-list.ensures.0, c.up_to-list.ensures.1, c.up_to-list.ensures.2) at c.count_arms-n.ensures) _ q.1 _ c.is_mid.ensures c.if-is_mid.false (rw (c.up_to-list.ensures.0, c.up_to-list.ensures.1, c.up_to-list.ensures.2, c.up_to-list.ensures.3) at c.in_ok-cases.ensures) c.if-there-eq0.false c.plain.ensures c.stmts.ensures)
 
 pub mid-returns-in_err-body : goal.mid-returns-in_err-body
-mid-returns-in_err-body g t c = let q = mid_cased _ _ _ _ _ _ c.end_of-list.ensures c.u32_at-index.ensures.0 _ c.requires.counted c.requires.cased in exit _ _ c.from_residual.ensures.1 _ (mid_there _ _ _ _ _ _ c.end_of-list.ensures c.u32_at-index.ensures.0 c.args.site c.args.first (span_of c.args.self.now.span) (mid_did _ _ _ _ _ _ _ _ _ (span_of c.args.self.now.span) q.0 q.4 _ refl c.in_err-body.ensures.did (label_stays _ _ _ _ refl) (stays _ _ _ _ _ refl) (emit_stays _ _ _ _ refl) (emit_stays _ _ _ _ refl) (stays _ _ _ _ _ refl)))
+mid-returns-in_err-body g t c = let q = mid_cased _ _ _ _ _ _ c.end_of-list.ensures c.u32_inside-index.ensures.0 _ c.requires.counted c.requires.cased in exit _ _ c.from_residual.ensures.1 _ (mid_there _ _ _ _ _ _ c.end_of-list.ensures c.u32_inside-index.ensures.0 c.args.site c.args.first (span_of c.args.self.now.span) (mid_did _ _ _ _ _ _ _ _ _ (span_of c.args.self.now.span) q.0 q.4 _ refl c.in_err-body.ensures.did (label_stays _ _ _ _ refl) (stays _ _ _ _ _ refl) (emit_stays _ _ _ _ refl) (emit_stays _ _ _ _ refl) (stays _ _ _ _ _ refl)))
 
 pub mid-returns-in_err-new_labels : goal.mid-returns-in_err-new_labels
-mid-returns-in_err-new_labels g t c = let q = mid_cased _ _ _ _ _ _ c.end_of-list.ensures c.u32_at-index.ensures.0 _ c.requires.counted c.requires.cased in exit _ _ c.from_residual-in_err-new_labels.ensures.1 _ (mid_there _ _ _ _ _ _ c.end_of-list.ensures c.u32_at-index.ensures.0 c.args.site c.args.first (span_of c.args.self.now.span) (mid_did _ _ _ _ _ _ _ _ _ (span_of c.args.self.now.span) q.0 q.4 _ (numbered _ c.in_ok-body.ensures.number) c.in_ok-body.ensures.did c.in_err-new_labels.ensures (stays _ _ _ _ _ refl) (emit_stays _ _ _ _ refl) (emit_stays _ _ _ _ refl) (stays _ _ _ _ _ refl)))
+mid-returns-in_err-new_labels g t c = let q = mid_cased _ _ _ _ _ _ c.end_of-list.ensures c.u32_inside-index.ensures.0 _ c.requires.counted c.requires.cased in exit _ _ c.from_residual-in_err-new_labels.ensures.1 _ (mid_there _ _ _ _ _ _ c.end_of-list.ensures c.u32_inside-index.ensures.0 c.args.site c.args.first (span_of c.args.self.now.span) (mid_did _ _ _ _ _ _ _ _ _ (span_of c.args.self.now.span) q.0 q.4 _ (numbered _ c.in_ok-body.ensures.number) c.in_ok-body.ensures.did c.in_err-new_labels.ensures (stays _ _ _ _ _ refl) (emit_stays _ _ _ _ refl) (emit_stays _ _ _ _ refl) (stays _ _ _ _ _ refl)))
 
 pub mid-returns-in_err-matchers : goal.mid-returns-in_err-matchers
-mid-returns-in_err-matchers g t c = let q = mid_cased _ _ _ _ _ _ c.end_of-list.ensures c.u32_at-index.ensures.0 _ c.requires.counted c.requires.cased in exit _ _ c.from_residual-in_err-matchers.ensures.1 _ (mid_there _ _ _ _ _ _ c.end_of-list.ensures c.u32_at-index.ensures.0 c.args.site c.args.first (span_of c.args.self.now.span) (mid_did _ _ _ _ _ _ _ _ _ (span_of c.args.self.now.span) q.0 q.4 _ (numbered _ c.in_ok-body.ensures.number) c.in_ok-body.ensures.did c.in_ok-new_labels.ensures (rw (c.up_to-cases.ensures.0, c.up_to-cases.ensures.1, c.up_to-cases.ensures.2) at c.in_err-matchers.ensures) (emit_stays _ _ _ _ refl) (emit_stays _ _ _ _ refl) (stays _ _ _ _ _ refl)))
+mid-returns-in_err-matchers g t c = let q = mid_cased _ _ _ _ _ _ c.end_of-list.ensures c.u32_inside-index.ensures.0 _ c.requires.counted c.requires.cased in exit _ _ c.from_residual-in_err-matchers.ensures.1 _ (mid_there _ _ _ _ _ _ c.end_of-list.ensures c.u32_inside-index.ensures.0 c.args.site c.args.first (span_of c.args.self.now.span) (mid_did _ _ _ _ _ _ _ _ _ (span_of c.args.self.now.span) q.0 q.4 _ (numbered _ c.in_ok-body.ensures.number) c.in_ok-body.ensures.did c.in_ok-new_labels.ensures (rw (c.up_to-cases.ensures.0, c.up_to-cases.ensures.1, c.up_to-cases.ensures.2) at c.in_err-matchers.ensures) (emit_stays _ _ _ _ refl) (emit_stays _ _ _ _ refl) (stays _ _ _ _ _ refl)))
 
 pub mid-overflow_add-body : goal.mid-overflow_add-body
-mid-overflow_add-body g t c = let q = mid_cased _ _ _ _ _ _ c.end_of-list.ensures c.u32_at-index.ensures.0 _ c.requires.counted c.requires.cased in let z : c.in_ok-body.body + c.args.n < 18446744073709551616 = omega (arith, few_arms _ _ _ _ _ q.2 q.0 q.4, q.3, c.args.self.now.nodes.inside, c.well_formed.0, c.in_ok-body.ensures.few) in record { fits = z }
+mid-overflow_add-body g t c = let q = mid_cased _ _ _ _ _ _ c.end_of-list.ensures c.u32_inside-index.ensures.0 _ c.requires.counted c.requires.cased in let z : c.in_ok-body.body + c.args.n < 18446744073709551616 = omega (arith, few_arms _ _ _ _ _ q.2 q.0 q.4, q.3, c.args.self.now.nodes.inside, c.well_formed.0, c.in_ok-body.ensures.few) in record { fits = z }
 
 pub mid-bodies-requires : goal.mid-bodies-requires
-mid-bodies-requires g t c = let q = mid_cased _ _ _ _ _ _ c.end_of-list.ensures c.u32_at-index.ensures.0 _ c.requires.counted c.requires.cased in λ _ outlives. (omega arith, (outlives, (q.0, (q.1, (q.2, q.3, omega (arith, c.in_ok-body.ensures.few), omega (arith, few_arms _ _ _ _ _ q.2 q.0 q.4, q.3, c.args.self.now.nodes.inside))))))
+mid-bodies-requires g t c = let q = mid_cased _ _ _ _ _ _ c.end_of-list.ensures c.u32_inside-index.ensures.0 _ c.requires.counted c.requires.cased in λ _ outlives. (omega arith, (outlives, (q.0, (q.1, (q.2, q.3, omega (arith, c.in_ok-body.ensures.few), omega (arith, few_arms _ _ _ _ _ q.2 q.0 q.4, q.3, c.args.self.now.nodes.inside))))))
 
 pub mid-returns : goal.mid-returns
-mid-returns g t c = let q = mid_cased _ _ _ _ _ _ c.end_of-list.ensures c.u32_at-index.ensures.0 _ c.requires.counted c.requires.cased in mid_there _ _ _ _ _ _ c.end_of-list.ensures c.u32_at-index.ensures.0 c.args.site c.args.first (span_of c.args.self.now.span) (mid_did _ _ _ _ _ _ _ _ _ (span_of c.args.self.now.span) q.0 q.4 _ (numbered _ c.in_ok-body.ensures.number) c.in_ok-body.ensures.did c.in_ok-new_labels.ensures (rw (c.up_to-cases.ensures.0, c.up_to-cases.ensures.1, c.up_to-cases.ensures.2) at c.in_ok-matchers.ensures) c.plain.ensures c.jump.ensures c.bodies.ensures)
+mid-returns g t c = let q = mid_cased _ _ _ _ _ _ c.end_of-list.ensures c.u32_inside-index.ensures.0 _ c.requires.counted c.requires.cased in mid_there _ _ _ _ _ _ c.end_of-list.ensures c.u32_inside-index.ensures.0 c.args.site c.args.first (span_of c.args.self.now.span) (mid_did _ _ _ _ _ _ _ _ _ (span_of c.args.self.now.span) q.0 q.4 _ (numbered _ c.in_ok-body.ensures.number) c.in_ok-body.ensures.did c.in_ok-new_labels.ensures (rw (c.up_to-cases.ensures.0, c.up_to-cases.ensures.1, c.up_to-cases.ensures.2) at c.in_ok-matchers.ensures) c.plain.ensures c.jump.ensures c.bodies.ensures)
 
 pub repeat-inner-below-requires : goal.repeat-inner-below-requires
 repeat-inner-below-requires g t c = stmt_fits _ _ _ _ c.requires.accepted c.args.self.now.nodes.inside
@@ -331,22 +331,25 @@ pub switch-end_of-second-requires : goal.switch-end_of-second-requires
 switch-end_of-second-requires g t c = let k = switch_here _ _ _ _ (span_of c.args.self.now.span) c.requires.accepted _ _ _ c.inner-below.ensures.node _ _ refl refl c.requires.at_value in omega (arith, k.one, c.inner-below.ensures.node, stmt_fits _ _ _ _ c.requires.accepted c.args.self.now.nodes.inside)
 
 pub switch-returns-in_err-finish : goal.switch-returns-in_err-finish
-switch-returns-in_err-finish g t c = let k = switch_here _ _ _ _ (span_of c.args.self.now.span) c.requires.accepted _ _ _ c.inner-below.ensures.node _ _ c.u32_at-typ.ensures.0 c.end_of-second.ensures c.requires.at_value in exit _ _ c.from_residual.ensures.1 _ (recode k.code (unmade _ _ c.in_err-finish.ensures))
+switch-returns-in_err-finish g t c = let k = switch_here _ _ _ _ (span_of c.args.self.now.span) c.requires.accepted _ _ _ c.inner-below.ensures.node _ _ c.u32_inside-typ.ensures.0 c.end_of-second.ensures c.requires.at_value in exit _ _ c.from_residual.ensures.1 _ (recode k.code (unmade _ _ c.in_err-finish.ensures))
 
 pub switch-returns-in_err-label : goal.switch-returns-in_err-label
-switch-returns-in_err-label g t c = let k = switch_here _ _ _ _ (span_of c.args.self.now.span) c.requires.accepted _ _ _ c.inner-below.ensures.node _ _ c.u32_at-typ.ensures.0 c.end_of-second.ensures c.requires.at_value in exit _ _ c.from_residual-in_err-label.ensures.1 _ (recode k.code (made _ _ c.in_ok-finish.ensures (unmade _ _ c.in_err-label.ensures)))
+switch-returns-in_err-label g t c = let k = switch_here _ _ _ _ (span_of c.args.self.now.span) c.requires.accepted _ _ _ c.inner-below.ensures.node _ _ c.u32_inside-typ.ensures.0 c.end_of-second.ensures c.requires.at_value in exit _ _ c.from_residual-in_err-label.ensures.1 _ (recode k.code (made _ _ c.in_ok-finish.ensures (unmade _ _ c.in_err-label.ensures)))
+
+pub switch-u32_inside-typ-requires : goal.switch-u32_inside-typ-requires
+switch-u32_inside-typ-requires g t c = let k = switch_here _ _ _ _ (span_of c.args.self.now.span) c.requires.accepted _ _ _ c.inner-below.ensures.node _ _ refl refl c.requires.at_value in omega (arith, k.one, c.inner-below.ensures.node, stmt_fits _ _ _ _ c.requires.accepted c.args.self.now.nodes.inside)
 
 pub switch-node-requires : goal.switch-node-requires
-switch-node-requires g t c = let k = switch_here _ _ _ _ (span_of c.args.self.now.span) c.requires.accepted _ _ _ c.inner-below.ensures.node _ _ c.u32_at-typ.ensures.0 c.end_of-second.ensures c.requires.at_value in record { accepted = k.one.reads }
+switch-node-requires g t c = let k = switch_here _ _ _ _ (span_of c.args.self.now.span) c.requires.accepted _ _ _ c.inner-below.ensures.node _ _ c.u32_inside-typ.ensures.0 c.end_of-second.ensures c.requires.at_value in record { accepted = k.one.reads }
 
 pub switch-returns-in_err-node : goal.switch-returns-in_err-node
-switch-returns-in_err-node g t c = let k = switch_here _ _ _ _ (span_of c.args.self.now.span) c.requires.accepted _ _ _ c.inner-below.ensures.node _ _ c.u32_at-typ.ensures.0 c.end_of-second.ensures c.requires.at_value in exit _ _ c.from_residual-in_err-node.ensures.1 _ (recode k.code (made _ _ c.in_ok-finish.ensures (made _ _ c.in_ok-label.ensures (both (emitted c.switch.ensures) (halt c.in_err-node.ensures _)))))
+switch-returns-in_err-node g t c = let k = switch_here _ _ _ _ (span_of c.args.self.now.span) c.requires.accepted _ _ _ c.inner-below.ensures.node _ _ c.u32_inside-typ.ensures.0 c.end_of-second.ensures c.requires.at_value in exit _ _ c.from_residual-in_err-node.ensures.1 _ (recode k.code (made _ _ c.in_ok-finish.ensures (made _ _ c.in_ok-label.ensures (both (emitted c.switch.ensures) (halt c.in_err-node.ensures _)))))
 
 pub switch-inside-requires : goal.switch-inside-requires
-switch-inside-requires g t c = let k = switch_here _ _ _ _ (span_of c.args.self.now.span) c.requires.accepted _ _ _ c.inner-below.ensures.node _ _ c.u32_at-typ.ensures.0 c.end_of-second.ensures c.requires.at_value in λ _ outlives. (omega (arith, c.inner-below.ensures.node, c.in_switch-cases.ensures, stmt_fits _ _ _ _ c.requires.accepted c.args.self.now.nodes.inside), (outlives, rw (c.in_switch-cases.ensures.0, c.in_switch-cases.ensures.1, c.in_switch-cases.ensures.2) k.cased))
+switch-inside-requires g t c = let k = switch_here _ _ _ _ (span_of c.args.self.now.span) c.requires.accepted _ _ _ c.inner-below.ensures.node _ _ c.u32_inside-typ.ensures.0 c.end_of-second.ensures c.requires.at_value in λ _ outlives. (omega (arith, c.inner-below.ensures.node, c.in_switch-cases.ensures, stmt_fits _ _ _ _ c.requires.accepted c.args.self.now.nodes.inside), (outlives, rw (c.in_switch-cases.ensures.0, c.in_switch-cases.ensures.1, c.in_switch-cases.ensures.2) k.cased))
 
 pub switch-returns-in_err-inside : goal.switch-returns-in_err-inside
-switch-returns-in_err-inside g t c = let k = switch_here _ _ _ _ (span_of c.args.self.now.span) c.requires.accepted _ _ _ c.inner-below.ensures.node _ _ c.u32_at-typ.ensures.0 c.end_of-second.ensures c.requires.at_value in exit _ _ c.from_residual-in_err-inside.ensures.1 _ (recode k.code (made _ _ c.in_ok-finish.ensures (made _ _ c.in_ok-label.ensures (both (emitted c.switch.ensures) (both c.in_ok-node.ensures (halt (rw (c.in_switch-cases.ensures.0, c.in_switch-cases.ensures.1, c.in_switch-cases.ensures.2, c.in_switch-cases.ensures.3, c.inner-below.ensures.scope) at c.in_err-inside.ensures) _))))))
+switch-returns-in_err-inside g t c = let k = switch_here _ _ _ _ (span_of c.args.self.now.span) c.requires.accepted _ _ _ c.inner-below.ensures.node _ _ c.u32_inside-typ.ensures.0 c.end_of-second.ensures c.requires.at_value in exit _ _ c.from_residual-in_err-inside.ensures.1 _ (recode k.code (made _ _ c.in_ok-finish.ensures (made _ _ c.in_ok-label.ensures (both (emitted c.switch.ensures) (both c.in_ok-node.ensures (halt (rw (c.in_switch-cases.ensures.0, c.in_switch-cases.ensures.1, c.in_switch-cases.ensures.2, c.in_switch-cases.ensures.3, c.inner-below.ensures.scope) at c.in_err-inside.ensures) _))))))
 
 pub switch-returns : goal.switch-returns
-switch-returns g t c = let k = switch_here _ _ _ _ (span_of c.args.self.now.span) c.requires.accepted _ _ _ c.inner-below.ensures.node _ _ c.u32_at-typ.ensures.0 c.end_of-second.ensures c.requires.at_value in recode k.code (made _ _ c.in_ok-finish.ensures (made _ _ c.in_ok-label.ensures (both (emitted c.switch.ensures) (both c.in_ok-node.ensures (both (rw (c.in_switch-cases.ensures.0, c.in_switch-cases.ensures.1, c.in_switch-cases.ensures.2, c.in_switch-cases.ensures.3, c.inner-below.ensures.scope) at c.in_ok-inside.ensures) (marked c.mark_label.ensures c.mark_label.auto.marks))))))
+switch-returns g t c = let k = switch_here _ _ _ _ (span_of c.args.self.now.span) c.requires.accepted _ _ _ c.inner-below.ensures.node _ _ c.u32_inside-typ.ensures.0 c.end_of-second.ensures c.requires.at_value in recode k.code (made _ _ c.in_ok-finish.ensures (made _ _ c.in_ok-label.ensures (both (emitted c.switch.ensures) (both c.in_ok-node.ensures (both (rw (c.in_switch-cases.ensures.0, c.in_switch-cases.ensures.1, c.in_switch-cases.ensures.2, c.in_switch-cases.ensures.3, c.inner-below.ensures.scope) at c.in_ok-inside.ensures) (marked c.mark_label.ensures c.mark_label.auto.marks))))))
