@@ -22,7 +22,7 @@ fn carries(tag: u8) -> (bool, bool)
     ensures { let row = row_of tag in result ≡ (row.first, row.second) }
 {
     let row = tables::row_of(tag);
-    (row.first, row.second)
+    (row.first != 0, row.second != 0)
 }
 
 // The mark of a label. Outside the table it is unmarked.

@@ -1,21 +1,20 @@
 -- Records and their bytes.
 use Prim.Native.Nat.{ℕ, zero, suc, ◌+◌, ◌-◌, ◌≤◌, ◌<◌, ◌^◌}
-use mathlib.Core.Path.{◌≡◌, refl, sym, ◌∙◌, subst}
-use mathlib.Core.Bool.{Bool, true, ◌&&◌, and-eq-true_iff}
+use mathlib.Core.Path.{◌≡◌, refl, sym, ◌∙◌}
+use mathlib.Core.Bool.{Bool, true, false, ◌&&◌, and-eq-true_iff}
 use mathlib.Core.List.{List, [], ◌∷◌, ◌++◌, append_assoc}
 use native.Mathlib.Omega.{arith}
 use native.Mathlib.Nat.{add-zero}
-use lib.Dec.{ltb, eqb, lit<}
+use lib.Dec.{ltb, leb, eqb, lit<}
 use lib.ListN.{length, get_or, take, drop, length-append}
 use lib.Seq.{take_at, drop-append-add, drop-drop, take-add}
-use borrow.Author.Tests.{le-leb, lt-leb, eqb-true}
+use borrow.Author.Tests.{le-leb, lt-leb, ne_eqb, eqb-true}
 use Rattle.definitions.specs.Bytes.{number, bytes}
-use Rattle.definitions.specs.Tag as definitions
 use Rattle.definitions.specs.Tag.{tag_size, emitted, row_of}
 use Rattle.definitions.specs.Instr.{Instr, record_length, record_bytes, record_at, good_record, unused0}
 use Rattle.instr.specs.declared.tables.Row.{Row}
 use Rattle.laws.proofs.Widths.{Within}
-use Rattle.instr.specs.Values.{Field, row_is, slot, fields_of, stored, written}
+use Rattle.instr.specs.Values.{Field, mark, row_marks, slot, fields_of, stored, written}
 use Rattle.laws.proofs.Tables.{at}
 use Rattle.instr.proofs.NumberLaws.{length_bytes, read_back, write_back}
 
@@ -144,12 +143,33 @@ write_none i s h = rw (lt-leb record_length (length s) h)
 
 -- 4. A good record
 
--- by the size and the row of its tag
-unfoldable pub good_with : (size : ℕ) (row : definitions.Row) → Instr → Bool
-good_with n row i =
-    ltb 0 n && unused0 row.small i.small && unused0 row.first i.first && unused0 row.second i.second
-    && unused0 row.line i.line && unused0 row.flags i.flags && unused0 row.value i.value
+-- a field is at most its mark: it is used, or it is 0
+at_most_mark : (used : Bool) (top x : ℕ) → x ≤ top → leb x (mark used top) ≡ unused0 used x
+unfolding unused0
+at_most_mark true top x h = le-leb x top h
+at_most_mark false top zero h = refl
+at_most_mark false top (suc x) h = rw (lt-leb (suc x) 0 (omega arith), ne_eqb (suc x) 0 (λ e. absurd (omega (arith, e))))
 
-pub good_is : (i : Instr) {n : ℕ} {row : Row} → n ≡ tag_size i.tag → row_is row ≡ row_of i.tag → good_with n (row_is row) i ≡ good_record i
+-- by the size and the row of its tag
+unfoldable pub good_with : (size : ℕ) → Row → Instr → Bool
+good_with n row i =
+    ltb 0 n && leb i.small row.small && leb i.first row.first && leb i.second row.second && leb i.line row.line
+    && leb i.flags row.flags && leb i.value row.value
+
+-- of any record of the code: its fields are within the types that they have there
+pub good_is : (i : Instr) {n : ℕ} {row : Row} → n ≡ tag_size i.tag → row ≡ row_marks (row_of i.tag) →
+    i.small ≤ 255 → i.first ≤ 65535 → i.second ≤ 65535 → i.line ≤ 65535 → i.flags ≤ 65535 →
+    i.value ≤ 18446744073709551615 → good_with n row i ≡ good_record i
 unfolding good_with good_record emitted
-good_is i {n} {row} e r = subst (λ (m : ℕ). good_with m (row_is row) i ≡ good_record i) (sym e) (subst (λ x. good_with (tag_size i.tag) x i ≡ good_record i) (sym r) refl)
+good_is i e r hs hf hn hl hg hv =
+    let w = row_of i.tag in
+    rw (
+      e,
+      r,
+      at_most_mark w.small 255 i.small hs,
+      at_most_mark w.first 65535 i.first hf,
+      at_most_mark w.second 65535 i.second hn,
+      at_most_mark w.line 65535 i.line hl,
+      at_most_mark w.flags 65535 i.flags hg,
+      at_most_mark w.value 18446744073709551615 i.value hv,
+    ) refl

@@ -1,9 +1,11 @@
 -- Tables: an entry that is read at a tag.
-use mathlib.Core.Path.{◌≡◌, ◌∙◌, ap, sym}
-use mathlib.Core.Bool.{false}
+use mathlib.Core.Path.{◌≡◌, refl, ◌∙◌, ap, sym}
+use mathlib.Core.Bool.{Bool, true, false, not}
 use mathlib.Core.List.{List, map}
-use Prim.Native.Nat.{ℕ, ◌≤◌}
+use Prim.Native.Nat.{ℕ, ◌≤◌, ◌<◌}
+use native.Mathlib.Omega.{arith}
 use lib.ListN.{get_or, get_or-map}
+use borrow.Author.Tests.{ne_eqb}
 use Rattle.std.proofs.Common.{Bor}
 use Rattle.std.specs.Prelude.{Option, Some, None}
 use Rattle.std.specs.Option.{option_copied, option_map}
@@ -14,25 +16,27 @@ use Rattle.definitions.specs.Tag as definitions
 use Rattle.definitions.specs.Tag.{tag_size, row_of}
 use Rattle.laws.proofs.Sizes.{size_limit}
 use Rattle.instr.specs.declared.tables.Row.{Row}
-use Rattle.instr.specs.Values.{row_is}
+use Rattle.instr.specs.Values.{mark, uses, row_marks}
 
 -- the size at a tag is that of the tag with the same number
 pub size_at : {t n : ℕ} → n ≡ t → (tag_size n ≡ tag_size t) × (tag_size n ≤ 17)
 size_at {t} {n} e = (ap tag_size e, size_limit n)
 
--- a row as the code has it, and all of them
-abbrev pub coded : definitions.Row → Row
-coded r = record { small = r.small; first = r.first; second = r.second; line = r.line; flags = r.flags; value = r.value }
-
+-- the rows of the code, and the one with no field
 unfoldable pub the_rows : List Row
-the_rows = map coded definitions.rows
+the_rows = map row_marks definitions.rows
 
-abbrev pub none : Row
+abbrev none : definitions.Row
 none = record { small = false; first = false; second = false; line = false; flags = false; value = false }
 
-pub row_at : {t n : ℕ} → n ≡ t → row_is (get_or the_rows n none) ≡ row_of t
+pub row_at : {t n : ℕ} → n ≡ t → get_or the_rows n (row_marks none) ≡ row_marks (row_of t)
 unfolding row_of the_rows
-row_at {t} {n} e = ap row_is (get_or-map coded definitions.rows n (row_is none)) ∙ ap row_of e
+row_at {t} {n} e = get_or-map row_marks definitions.rows n none ∙ ap (λ k. row_marks (row_of k)) e
+
+-- a mark says whether its field is used
+pub uses_mark : (used : Bool) (top : ℕ) → 0 < top → uses (mark used top) ≡ used
+uses_mark true top h = ap not (ne_eqb top 0 (λ e. absurd (omega (arith, h, e))))
+uses_mark false top h = refl
 
 -- what `get` lends, copied, is the element
 pub copied_get : {X : Type 0} (xs : List X) (k : ℕ) (r : Option (Bor X)) → IsItemAt xs k r → option_copied r ≡ slice_get xs k

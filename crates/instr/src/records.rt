@@ -99,17 +99,17 @@ pub fn read_record(s: &[u8], at: usize) -> Record
     read_plain(s, at)
 }
 
-// A record that a listing may hold: a tag that the base emits, and unused fields 0. No test waits for another, so that the compiler makes
-// no branch.
+/// Whether a listing may hold a record: its tag is one that the base emits, and its unused fields are 0, which is to say that each field is
+/// at most its mark. No test waits for another, so that the compiler makes no branch of each.
 pub fn good_record(r: Record) -> bool
     ensures { result ≡ good_record (instr_of r) }
 {
     let row = tables::row_of(r.tag);
     (0 < tables::size_of(r.tag))
-        & (row.small | (r.small == 0))
-        & (row.first | (r.first == 0))
-        & (row.second | (r.second == 0))
-        & (row.line | (r.line == 0))
-        & (row.flags | (r.flags == 0))
-        & (row.value | (r.value == 0))
+        & (r.small <= row.small)
+        & (r.first <= row.first)
+        & (r.second <= row.second)
+        & (r.line <= row.line)
+        & (r.flags <= row.flags)
+        & (r.value <= row.value)
 }

@@ -1,7 +1,7 @@
 // What goes with each tag: its virtual size, the fields it uses, and the tags of default bytes.
 ghost use Rattle.std.specs.Prelude.{◌≡◌, ◌≤◌, option_map, slice_get};
 ghost use Rattle.definitions.specs.Tag.{tag_size, row_of, default_tags};
-ghost use Rattle.instr.specs.Values.{row_is};
+ghost use Rattle.instr.specs.Values.{row_marks};
 ghost use Rattle.instr.specs.Tags.{byte_of};
 
 use crate::tag::Tag;
@@ -115,85 +115,87 @@ static SIZES: [u8; 256] = [
     0, 0, 0, 0, 0, 0, 0, 0, 0, 0, 0, 0, 0, 0, 0, 0,
 ];
 
-// The fields of a record that a tag uses.
+/// The fields of a record that a tag uses, each by its mark, the most that the field may hold: all ones of its type where the tag uses
+/// it, and else 0. So one compare of a field with its mark says that an unused field is 0, and says nothing of a used one. A tag uses the
+/// fields whose mark is not 0.
 #[derive(Clone, Copy, Debug, PartialEq, Eq)]
 pub struct Row {
-    pub small: bool,
-    pub first: bool,
-    pub second: bool,
-    pub line: bool,
-    pub flags: bool,
-    pub value: bool,
+    pub small: u8,
+    pub first: u16,
+    pub second: u16,
+    pub line: u16,
+    pub flags: u16,
+    pub value: u64,
 }
 
 // No field.
 const O: Row = Row {
-    small: false,
-    first: false,
-    second: false,
-    line: false,
-    flags: false,
-    value: false,
+    small: 0,
+    first: 0,
+    second: 0,
+    line: 0,
+    flags: 0,
+    value: 0,
 };
 
 // An index or a constant.
 const V: Row = Row {
-    small: false,
-    first: false,
-    second: false,
-    line: false,
-    flags: false,
-    value: true,
+    small: 0,
+    first: 0,
+    second: 0,
+    line: 0,
+    flags: 0,
+    value: u64::MAX,
 };
 
 // The only label.
 const J: Row = Row {
-    small: false,
-    first: true,
-    second: false,
-    line: false,
-    flags: false,
-    value: false,
+    small: 0,
+    first: u16::MAX,
+    second: 0,
+    line: 0,
+    flags: 0,
+    value: 0,
 };
 
 // first_case and the type.
 const S: Row = Row {
-    small: false,
-    first: true,
-    second: false,
-    line: false,
-    flags: false,
-    value: true,
+    small: 0,
+    first: u16::MAX,
+    second: 0,
+    line: 0,
+    flags: 0,
+    value: u64::MAX,
 };
 
 // Two labels: false_label and exit, next_case and body.
 const P: Row = Row {
-    small: false,
-    first: true,
-    second: true,
-    line: false,
-    flags: false,
-    value: false,
+    small: 0,
+    first: u16::MAX,
+    second: u16::MAX,
+    line: 0,
+    flags: 0,
+    value: 0,
 };
 
 // arg_count, size or is_weak, and an index.
 const C: Row = Row {
-    small: true,
-    first: false,
-    second: false,
-    line: false,
-    flags: false,
-    value: true,
+    small: u8::MAX,
+    first: 0,
+    second: 0,
+    line: 0,
+    flags: 0,
+    value: u64::MAX,
 };
 
 // exit, line, flags and the function or its name.
 const I: Row = Row {
-    small: false,
-    first: true,
-    second: false,
-    line: true,
-    flags: true,
-    value: true,
+    small: 0,
+    first: u16::MAX,
+    second: 0,
+    line: u16::MAX,
+    flags: u16::MAX,
+    value: u64::MAX,
 };
 
 // The fields of each tag.
@@ -333,9 +335,9 @@ pub fn size_of(tag: u8) -> u8
     SIZES[usize::from(tag)]
 }
 
-// The fields that a record with this tag uses.
+/// The row of a tag, by its number: no field of a number that is no tag.
 pub fn row_of(tag: u8) -> Row
-    ensures { row_is result ≡ row_of tag }
+    ensures { result ≡ row_marks (row_of tag) }
 {
     ROWS[usize::from(tag)]
 }

@@ -1,7 +1,7 @@
 // The 77 instructions that the base emits, by the names of instr.rs. Each is written as its byte.
 ghost use Rattle.std.specs.Prelude.{◌≡◌, ◌≤◌};
 ghost use Rattle.definitions.specs.Tag.{tag_size, row_of};
-ghost use Rattle.instr.specs.Values.{row_is};
+ghost use Rattle.instr.specs.Values.{row_marks};
 ghost use Rattle.instr.specs.Tags.{byte_of, Decodes};
 
 use crate::tables;
@@ -104,9 +104,9 @@ impl Tag {
         tables::size_of(self.byte())
     }
 
-    // The fields that it uses.
+    /// Its row: the fields that it uses.
     pub fn row(self) -> Row
-        ensures { row_is result ≡ row_of (byte_of self) }
+        ensures { result ≡ row_marks (row_of (byte_of self)) }
     {
         tables::row_of(self.byte())
     }

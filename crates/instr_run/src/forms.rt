@@ -6,12 +6,12 @@ use std::io;
 
 // The fields of a byte that is no tag.
 const NO_FIELDS: Row = Row {
-    small: false,
-    first: false,
-    second: false,
-    line: false,
-    flags: false,
-    value: false,
+    small: 0,
+    first: 0,
+    second: 0,
+    line: 0,
+    flags: 0,
+    value: 0,
 };
 
 // How many bytes have the size of their tag, or 0 where there is none.

@@ -30,12 +30,12 @@ fn sample(tag: u8) -> Record {
     let row = tables::row_of(tag);
     Record {
         tag,
-        small: row.small.then_some(0x81).unwrap_or_default(),
-        first: row.first.then_some(0x8283).unwrap_or_default(),
-        second: row.second.then_some(0x8485).unwrap_or_default(),
-        line: row.line.then_some(0x8687).unwrap_or_default(),
-        flags: row.flags.then_some(0x8889).unwrap_or_default(),
-        value: row.value.then_some(0x8A8B8C8D8E8F9091).unwrap_or_default(),
+        small: row.small & 0x81,
+        first: row.first & 0x8283,
+        second: row.second & 0x8485,
+        line: row.line & 0x8687,
+        flags: row.flags & 0x8889,
+        value: row.value & 0x8A8B8C8D8E8F9091,
         node: 0x92939495,
     }
 }

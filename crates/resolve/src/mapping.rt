@@ -5,7 +5,7 @@ ghost use Rattle.definitions.specs.Instr.{record_length, record_at};
 ghost use Rattle.definitions.specs.Listing.{records_of, read_listing};
 ghost use Rattle.definitions.specs.Stage.{coded, resolve_to};
 ghost use Rattle.instr.specs.Refusals.{answer};
-ghost use Rattle.instr.specs.Values.{row_is, counted};
+ghost use Rattle.instr.specs.Values.{row_marks, counted};
 ghost use Rattle.resolve.specs.Mapping.{Mapped, map_field, map_fields, map_records, try_records, rewrite};
 ghost use Rattle.resolve.specs.Values.{extra_of, resolving};
 
@@ -80,13 +80,13 @@ fn map_fields<M: Mapping>(
 ) -> Result<(u16, u16), Refusal>
     requires inside { at + record_length ≤ length listing.now }
     requires tag { carrier.tag ≡ get_or listing.now at 0 }
-    requires row { row_is row ≡ row_of carrier.tag }
+    requires row { row ≡ row_marks (row_of carrier.tag) }
     ensures { answer result ≡ map_fields (M.maps mapping.now) carrier.start carrier.number (record_at listing.now at) }
 {
     let first = u16_inside(listing, at + Record::FIRST);
-    let first = map_field(mapping, row.first, carrier, Operand::First, first)?;
+    let first = map_field(mapping, row.first != 0, carrier, Operand::First, first)?;
     let second = u16_inside(listing, at + Record::SECOND);
-    let second = map_field(mapping, row.second, carrier, Operand::Second, second)?;
+    let second = map_field(mapping, row.second != 0, carrier, Operand::Second, second)?;
     Ok((first, second))
 }
 
@@ -103,7 +103,7 @@ fn check_fields<M: Mapping>(mapping: &M, listing: &[u8], count: usize) -> Result
         let at = listings::FRONT + Record::LENGTH * number;
         let tag = listing[at];
         let row = tables::row_of(tag);
-        if row.first | row.second {
+        if row.first | row.second != 0 {
             let carrier = Carrier { tag, start, number };
             map_fields(mapping, row, carrier, listing, at)?;
         }
@@ -126,7 +126,7 @@ fn write_fields<M: Mapping>(mapping: &M, listing: &[u8], count: usize, out: &mut
         let at = listings::FRONT + Record::LENGTH * number;
         let tag = listing[at];
         let row = tables::row_of(tag);
-        if row.first | row.second {
+        if row.first | row.second != 0 {
             let carrier = Carrier {
                 tag,
                 start: offset,

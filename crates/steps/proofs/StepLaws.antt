@@ -4,13 +4,13 @@ use borrow.Author.Tests.{lt-leb}
 use borrow.Rule.Slice.PartMut.{put_mid}
 use Rattle.std.specs.Prelude as std
 use Rattle.definitions.specs.Tag.{tag_size, row_of, WeakRefToRef, Nop}
-use Rattle.definitions.specs.Tag as definitions
 use Rattle.definitions.specs.Instr.{Instr, record_length, size, plain}
 use Rattle.definitions.specs.Listing.{listing_length}
 use Rattle.definitions.specs.Code.{Code, done, ◌then◌, label, Action, mark, new, emit, refuse, label_limit, act}
 use Rattle.definitions.specs.Lower.{require, jump_to, jump, instr, weak_to_ref, nops}
-use Rattle.instr.specs.Values.{written, row_is}
+use Rattle.instr.specs.Values.{written, uses, row_marks}
 use Rattle.instr.specs.declared.tables.Row.{Row}
+use Rattle.instr.proofs.TableLaws.{uses_mark}
 use Rattle.definitions.specs.Answer.{onward, checked}
 use Rattle.laws.proofs.Sizes.{size_is}
 use Rattle.laws.proofs.Results.{onward_assoc, onward_made, onward_same}
@@ -250,12 +250,11 @@ unfolding weak_to_ref
 weak_some at zero h d = absurd (h refl)
 weak_some at (suc n) h d = d
 
-pub plain_is : (at t n v m x : ℕ) (row : Row) → row_is row ≡ row_of t → m ≡ cond row.small n 0 → x ≡ cond row.value v 0 →
+pub plain_is : (at t n v m x : ℕ) (row : Row) → row ≡ row_marks (row_of t) → m ≡ cond (uses row.small) n 0 → x ≡ cond (uses row.value) v 0 →
     ◌≡◌ {A = Instr} (record { tag = t; small = m; first = 0; second = 0; line = 0; flags = 0; value = x; node = at }) (plain at t n v)
 plain_is at t n v m x row e f g =
-    let a : row.small ≡ (row_of t).small = ap (λ (y : definitions.Row). y.small) e in
-    let b : row.value ≡ (row_of t).value = ap (λ (y : definitions.Row). y.value) e in
-    rw (f, g, a, b)
+    let r = row_of t in
+    rw (f, g, e, uses_mark r.small 255 (omega arith), uses_mark r.value 18446744073709551615 (omega arith))
 
 pub emitted_both : {S : Type 0} {K : Sinks S} {p q : Code} {w r z : Walk} {o o' o'' : S} → EmittedFrom K p w o r o' → EmittedFrom K q r o' z o'' → EmittedFrom K (p then q) w o z o''
 emitted_both a b = record { did = λ m. both (a.did m) (b.did m) }

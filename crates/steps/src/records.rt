@@ -89,8 +89,8 @@ impl Counters {
     {
         let row = tag.row();
         let op = Op {
-            small: masked(row.small, small),
-            value: masked(row.value, value) as u64,
+            small: masked(row.small != 0, small),
+            value: masked(row.value != 0, value) as u64,
             ..Op::new(tag, at)
         };
         self.emit(op, sink);

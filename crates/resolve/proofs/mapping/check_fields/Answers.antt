@@ -6,7 +6,7 @@ use Rattle.std.proofs.lemmas.Result.{err_from_is_err_and}
 use Rattle.instr.proofs.WholeLaws.{accepted}
 use Rattle.resolve.proofs.RecordLaws.{tag_at, size_at, plain, fields_made, fields_refused}
 use Rattle.resolve.proofs.Passes.{gone_start, next_of, gone_next, checked_refused, checked_end}
-use Rattle.resolve.proofs.mapping.check_fields.Goals.{then-row+in_ok-map_fields, else-row}
+use Rattle.resolve.proofs.mapping.check_fields.Goals.{then-row-ne0+in_ok-map_fields, else-row-ne0}
 use Rattle.resolve.proofs.mapping.check_fields.Goals as goal
 
 pub loop-number-init : goal.loop-number-init
@@ -22,9 +22,9 @@ overflow_add-start g c =
     omega (arith, c.from-start.ensures, c.size_of.ensures.1, c.loop-number.invariant.1.low, c.loop-number.invariant.1.few, (accepted _ _ c.requires).few)
 
 pub loop-number-preserved : goal.loop-number-preserved
-loop-number-preserved g c = elim c.if-row.branch [
-  | then-row+in_ok-map_fields w ↦ (_, gone_next c.loop-number.invariant.1 c.loop-number-test.true _ _ (fields_made _ _ _ _ _ _ w.in_ok-map_fields.ensures) (size_at _ _ (c.from-start.ensures ∙ c.size_of.ensures.0)))
-  | else-row w ↦ (_, gone_next c.loop-number.invariant.1 c.loop-number-test.true (next_of _ _) _ (plain _ _ _ _ _ _ (tag_at _ _) c.row_of-row.ensures w.if-row.false) (size_at _ _ (c.from-start.ensures ∙ c.size_of.ensures.0)))
+loop-number-preserved g c = elim c.if-row-ne0.branch [
+  | then-row-ne0+in_ok-map_fields w ↦ (_, gone_next c.loop-number.invariant.1 c.loop-number-test.true _ _ (fields_made _ _ _ _ _ _ w.in_ok-map_fields.ensures) (size_at _ _ (c.from-start.ensures ∙ c.size_of.ensures.0)))
+  | else-row-ne0 w ↦ (_, gone_next c.loop-number.invariant.1 c.loop-number-test.true (next_of _ _) _ (plain _ _ _ _ _ _ (tag_at _ _) c.row_of-row.ensures w.if-row-ne0.false) (size_at _ _ (c.from-start.ensures ∙ c.size_of.ensures.0)))
 ]
 
 pub returns : goal.returns
