@@ -1,10 +1,9 @@
 -- The proofs that units which strip alike lower and resolve alike, in the order in which to read them.
-mod Track
-mod Nodes
-mod Exprs
-mod Stmts
+mod Fields
+mod RestLaws
+mod Blanks
+mod Settled
 mod Units
-mod Codes
-mod Likes
+mod Records
 pub mod Theorem
 pub mod Stripping

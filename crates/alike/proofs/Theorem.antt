@@ -9,25 +9,23 @@ use Rattle.definitions.specs.Tag.{row_of}
 use Rattle.definitions.specs.Tree.{Script}
 use Rattle.definitions.specs.Read.{parse_unit}
 use Rattle.definitions.specs.Instr.{Instr, size}
-use Rattle.definitions.specs.Code.{State, start}
+use Rattle.definitions.specs.Code.{State}
 use Rattle.definitions.specs.Listing.{listing_length}
 use Rattle.definitions.specs.Resolve.{resolve_field, resolve_record, resolve_records, fitting}
 use Rattle.definitions.specs.Stage.{Measured, lowered, labelled, measure, lower_into, stage}
 use Rattle.definitions.specs.Strip.{strip}
 use Rattle.resolve.specs.Values.{relabelled}
 use Rattle.resolve.proofs.Delivered.{delivers_stage}
-use Rattle.alike.specs.Blank.{blank_answer}
 use Rattle.alike.specs.Outline.{outlines_from, lowering, resolving}
 use Rattle.alike.specs.Alike.{Alike}
-use Rattle.alike.proofs.Units.{stripped}
-use Rattle.alike.proofs.Codes.{Same, Sames, AlikeStates, Agree, onward_agree, checked_agree, run_alike}
-use Rattle.alike.proofs.Likes.{like}
+use Rattle.alike.proofs.Units.{blank_answer, stripped}
+use Rattle.alike.proofs.Records.{Same, Sames, AlikeStates, Agree, onward_agree, checked_agree, lower_agree}
 
 -- 1. A unit and its stripped copy: the labelled listings
 
 answers : (a : Answer Script) → Agree AlikeStates (lowered a) (lowered (blank_answer a))
 unfolding Agree lowered blank_answer Sames
-answers (ok u n) = run_alike (like u) start start (record { offset_is = refl; marks_are = refl; records = tt })
+answers (ok u n) = lower_agree u
 answers (refused n p x) = (refl, refl, refl)
 
 labelled_agree : (s : List ℕ) → Agree AlikeStates (labelled s) (labelled (strip s))
@@ -61,8 +59,10 @@ relabelled_agree i j e (refusal n p x) q = (refl, refl, refl)
 record_agree : (marks : List ℕ) (o n : ℕ) (i j : Instr) → Same i j → Agree Same (resolve_record marks o n i) (resolve_record marks o n j)
 unfolding resolve_record
 record_agree marks o n i j e =
-    let a : resolve_field (row_of i.tag).first marks o n 0 i.first ≡ resolve_field (row_of j.tag).first marks o n 0 j.first = rw (e.carries_first, e.first_is) in
-    let b : resolve_field (row_of i.tag).second marks o n 1 i.second ≡ resolve_field (row_of j.tag).second marks o n 1 j.second = rw (e.carries_second, e.second_is) in
+    let a : resolve_field (row_of i.tag).first marks o n 0 i.first ≡ resolve_field (row_of j.tag).first marks o n 0 j.first =
+    rw (e.carries_first, e.first_is) in
+    let b : resolve_field (row_of i.tag).second marks o n 1 i.second ≡ resolve_field (row_of j.tag).second marks o n 1 j.second =
+    rw (e.carries_second, e.second_is) in
     rw (a, b) (relabelled_agree i j e (resolve_field (row_of j.tag).first marks o n 0 j.first) (resolve_field (row_of j.tag).second marks o n 1 j.second))
 
 records_agree : (marks : List ℕ) (o n : ℕ) (is js : List Instr) → Sames is js → Agree Sames (resolve_records marks o n is) (resolve_records marks o n js)
@@ -78,7 +78,8 @@ records_agree marks o n (i ∷ is) (j ∷ js) h =
 stage_agree : (s : List ℕ) → Agree Sames (stage s) (stage (strip s))
 unfolding stage
 stage_agree s =
-    onward_agree AlikeStates Sames (labelled s) (labelled (strip s)) _ _ (labelled_agree s) (λ t u h. rw h.marks_are (records_agree u.marks 0 0 t.instrs u.instrs h.records))
+    onward_agree AlikeStates Sames (labelled s) (labelled (strip s)) _ _ (labelled_agree s) (λ t u h.
+    rw h.marks_are (records_agree u.marks 0 0 t.instrs u.instrs h.records))
 
 fitting_agree : (s : List ℕ) (space : ℕ) → Agree Sames (onward (stage s) (fitting space)) (onward (stage (strip s)) (fitting space))
 unfolding Agree
@@ -116,7 +117,8 @@ resolving_same (refusal n p x) (made js) h = absurd h
 resolving_same (refusal n p x) (refusal m q y) h = rw (h.0, h.1, h.2)
 
 measured_same : (r q : Result State) → Agree AlikeStates r q
-    → onward r (λ l. made (record { offset = l.offset; labels = length l.marks; count = length l.instrs })) ≡ onward {B = Measured} q (λ l. made (record { offset = l.offset; labels = length l.marks; count = length l.instrs }))
+    → onward r (λ l. made (record { offset = l.offset; labels = length l.marks; count = length l.instrs }))
+    ≡ onward {B = Measured} q (λ l. made (record { offset = l.offset; labels = length l.marks; count = length l.instrs }))
 unfolding Agree onward
 measured_same (made t) (made u) h = rw (h.offset_is, h.marks_are, same_length t.instrs u.instrs h.records)
 measured_same (made t) (refusal n p x) h = absurd h

@@ -1,4 +1,3 @@
--- The tree of a stripped unit, and what units that strip alike have in common.
-pub mod Blank
+-- What units that strip alike have in common.
 pub mod Outline
 pub mod Alike

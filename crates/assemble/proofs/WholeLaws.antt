@@ -24,6 +24,7 @@ use Rattle.ir.proofs.UnitPlaces.{unit_at}
 use Rattle.assemble.specs.Whole.{zeros}
 use Rattle.laws.proofs.Inversion.{impossible, refusal_not_made}
 use Rattle.laws.proofs.Results.{made_is, onward_is}
+use Rattle.laws.proofs.Grows.{Grows, step_grows, grows}
 use Rattle.assemble.specs.Walk.{given}
 use Rattle.laws.proofs.Widths.{Within, AllWithin}
 use Rattle.steps.specs.Running.{Sinks, Cells, cut, put, puts, set_made, move, run}
@@ -77,35 +78,8 @@ agrees K (label at f) c t k =
     then_agrees (move K (new at) c) (step (new at) t) (run K (f c.labels)) (execute (f (length t.marks))) (step_agrees K (new at) c t k)
     (λ d u j. subst (λ l. Agrees (run K (f l) d) (execute (f (length t.marks)) u)) (sym k.labels) (agrees K (f (length t.marks)) d u j))
 
--- 2. What is emitted only grows
+-- 2. What a value was made of
 
-pub record Grows (t t' : State) : Type 0 where
-  pub offset : t.offset ≤ t'.offset
-  pub count : length t.instrs ≤ length t'.instrs
-  pub labels : length t.marks ≤ length t'.marks
-
-pub step_grows : (a : Action) (t t' : State) → step a t ≡ made t' → Grows t t'
-unfolding step checked
-step_grows (new at) t t' e = go (ltb (length t.marks) label_limit) refl
-  where
-    go : (b : Bool) → ltb (length t.marks) label_limit ≡ b → Grows t t'
-    go true f = rw (← (made_is (rw (step, f, checked) at e))) (record { offset = omega arith; count = omega arith; labels = omega (arith, length-append t.marks (unmarked ∷ [])) })
-    go false f = refusal_not_made (rw (step, f, checked) at e)
-step_grows (mark l) t t' e = rw (← (made_is e)) (record { offset = omega arith; count = omega arith; labels = omega (arith, (same_long t.marks l t.offset)) })
-step_grows (emit i) t t' e = rw (← (made_is e)) (record { offset = omega arith; count = omega (arith, length-append t.instrs (i ∷ [])); labels = omega arith })
-step_grows (refuse n p x) t t' e = refusal_not_made e
-
-grows_on : {t u v : State} → Grows t u → Grows u v → Grows t v
-grows_on a b = record { offset = omega (arith, a.offset, b.offset); count = omega (arith, a.count, b.count); labels = omega (arith, a.labels, b.labels) }
-
-pub grows : (code : Code) (t t' : State) → execute code t ≡ made t' → Grows t t'
-unfolding execute
-grows done t t' e = rw (← (made_is e)) (record { offset = omega arith; count = omega arith; labels = omega arith })
-grows (act a) t t' e = step_grows a t t' e
-grows (p then q) t t' e = let k = onward_is (execute p t) (execute q) e in grows_on (grows p t k.0 k.1) (grows q k.0 t' k.2)
-grows (label at f) t t' e = let k = onward_is (step (new at) t) (execute (f (length t.marks))) e in grows_on (step_grows (new at) t k.0 k.1) (grows (f (length t.marks)) k.0 t' k.2)
-
--- what a value was made of
 pub made_by : {A B : Type 0} (x : Result A) (f : A → B) {b : B} → onward x (λ a. made (f a)) ≡ made b → (a : A) × (x ≡ made a) × (f a ≡ b)
 made_by x f e = let k = onward_is x (λ a. made (f a)) e in (k.0, k.1, made_is k.2)
 

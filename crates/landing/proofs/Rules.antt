@@ -9,20 +9,17 @@ use native.Mathlib.Numerals.{add-one}
 use lib.Dec.{ltb→lt, eqb}
 use lib.ListN.{length}
 use lib.IntN.{ℤ}
-use Rattle.definitions.specs.Tag.{row_of, tag_size, Jump}
+use Rattle.definitions.specs.Tag.{tag_size, Jump}
 use Rattle.definitions.specs.Instr.{Instr}
 use Rattle.definitions.specs.Code.{Action, Code, mark, emit, refuse, done, act, ◌then◌, label, many, emits}
 use Rattle.definitions.specs.Lower.{require}
 use Rattle.definitions.specs.Resolve.{in_range}
 use Rattle.laws.proofs.Sizes.{size_is, tag_total}
+use Rattle.laws.proofs.Picked.{Carries}
 use Rattle.landing.specs.Distance.{ahead, back}
 use Rattle.landing.specs.Landed.{NotBelow, Each}
 use Rattle.landing.specs.Walk.{news, actions}
 use Rattle.landing.proofs.Pieces.{records, total, also, carried, dists, Agrees, Scoped, hit, hits, count, Backs, Ahead, Onwards, Piece, news_append, total_append, records_append, count_append, hits_append, scoped_append, dists_append, backs_append, onwards_append, agrees_left, agrees_right, below_suc, sub_ahead, sub_back, back_one}
-
--- which labels the records of a tag carry
-abbrev pub Carries : (tag : ℕ) (first second : Bool) → Type 0
-Carries t f s = ((row_of t).first ≡ f) × ((row_of t).second ≡ s)
 
 module _ {M : ℕ → ℕ} {o n : ℕ} where
   pub nothing : Piece M o n done 0 0 [] [] Unit Unit Unit Unit []

@@ -2,6 +2,7 @@
 pub mod Arms
 pub mod Inversion
 pub mod Results
+pub mod Grows
 pub mod Tables
 pub mod Sizes
 pub mod Picked

@@ -9,9 +9,13 @@ use Rattle.definitions.specs.Tag.{sizes, tag_size, emitted, rows, row_of, const_
 use Rattle.definitions.specs.Lower.{null_tag, element_tag, local_tag}
 use Rattle.laws.proofs.Tables.{every, at}
 
+-- which labels the records of a tag carry
+abbrev pub Carries : (tag : ℕ) (first second : Bool) → Type 0
+Carries t f s = ((row_of t).first ≡ f) × ((row_of t).second ≡ s)
+
 pub record Plain (tag : ℕ) : Type 0 where
   pub sized : 0 < tag_size tag
-  pub carries : ((row_of tag).first ≡ false) × ((row_of tag).second ≡ false)
+  pub carries : Carries tag false false
 
 unfoldable is_plain : (tag : ℕ) → Bool
 is_plain t = emitted t && not (row_of t).first && not (row_of t).second

@@ -1,5 +1,4 @@
 -- Results, one after another.
-use Prim.Native.Nat.{ℕ}
 use mathlib.Core.Path.{◌≡◌, refl}
 use Rattle.definitions.specs.Answer.{Result, made, refusal, onward}
 use Rattle.laws.proofs.Inversion.{refusal_not_made}

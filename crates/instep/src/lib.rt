@@ -1,0 +1,3 @@
+#![tactic(auto)]
+
+// Only lemmas: proofs/.
