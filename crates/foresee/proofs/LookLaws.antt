@@ -4,10 +4,8 @@ use Rattle.std.specs.Borrow.{MutBor}
 use lib.Seq.{take_at}
 use lib.IntN.{ℤ, pos, ◌-ℤ◌, sub_ℕ}
 use borrow.Author.Tests.{le-leb, lt-leb, le-ltb}
-use Rattle.std.specs.Prelude.{Option, Some, None, Ok, Err, unwrap_or, option_copied, get_or}
+use Rattle.std.specs.Prelude.{Option, Some, None, Ok, Err, get_or}
 use Rattle.std.specs.Prelude as std
-use Rattle.std.specs.Slice.{IsItemAt}
-use Rattle.std.proofs.lemmas.Option.{unwrap_or-slice_get}
 use Rattle.std.proofs.lemmas.Result.{err_from_is_err_and}
 use Rattle.definitions.specs.Answer.{Answer, ok, refused, Result, made, refusal}
 use Rattle.definitions.specs.Code.{State, unmarked}
@@ -15,7 +13,6 @@ use Rattle.definitions.specs.Instr.{Instr, size}
 use Rattle.definitions.specs.Read.{parse_unit}
 use Rattle.definitions.specs.Stage.{labelled, lowered, Measured, measure, over}
 use Rattle.definitions.specs.Tree.{Script}
-use Rattle.instr.proofs.TableLaws.{copied_get}
 use Rattle.instr.specs.declared.refusals.Refusal.{Refusal}
 use Rattle.landing.proofs.Theorem.{bounded}
 use Rattle.laws.proofs.Inversion.{refusal_not_made}
@@ -30,10 +27,6 @@ use Rattle.foresee.specs.Looks.{Seen, seen_all, seen_of, seen_within, look_lent}
 use Rattle.foresee.specs.declared.looks.Looking.{Looking}
 
 -- 1. A distance
-
--- what `get` lends, or the unmarked mark
-pub marked_as : (marks : List ℕ) (i l : ℕ) (r : Option (Bor ℕ)) → i ≡ l → IsItemAt marks i r → unwrap_or (option_copied r) unmarked ≡ get_or marks l unmarked
-marked_as marks i l r e h = rw (copied_get marks i r h, e) (unwrap_or-slice_get marks l unmarked)
 
 less : (mark start : ℕ) → pos mark -ℤ pos start ≡ sub_ℕ mark start
 less mark zero = rw (le-ltb mark 0 (omega arith)) (ap pos (omega arith))

@@ -1,10 +1,10 @@
 // The distances of a record, from where it begins to where the labels that it carries land.
-ghost use Rattle.std.specs.Prelude.{◌≡◌, get_or};
-ghost use Rattle.definitions.specs.Code.{unmarked};
+ghost use Rattle.std.specs.Prelude.{◌≡◌};
 ghost use Rattle.definitions.specs.Tag.{row_of};
 ghost use Rattle.instr.specs.Values.{instr_of};
 ghost use Rattle.foresee.specs.Distances.{distance_if, distances_of};
 
+use instr::marks::mark_of;
 use instr::records::Record;
 use instr::tables;
 
@@ -23,13 +23,6 @@ fn carries(tag: u8) -> (bool, bool)
 {
     let row = tables::row_of(tag);
     (row.first != 0, row.second != 0)
-}
-
-// The mark of a label. Outside the table it is unmarked.
-fn mark_of(marks: &[u32], label: u16) -> u32
-    ensures { result ≡ get_or marks.now label unmarked }
-{
-    marks.get(usize::from(label)).copied().unwrap_or(u32::MAX)
 }
 
 // The distance of a field, where it carries a label. In 64 bits no two marks are too far apart.

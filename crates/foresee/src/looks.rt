@@ -16,6 +16,7 @@ use assemble::walk;
 use instr::records::Record;
 use instr::refusals::Refusal;
 use steps::counters::Counters;
+use steps::labels::LABELS;
 use steps::sinks::{Nothing, Sink};
 
 /// What looks at the records of a unit, and remembers what it will of them.
@@ -84,7 +85,7 @@ const FEW: usize = 256;
 
 const MANY: usize = 4096;
 
-const MOST: usize = 65536;
+const MOST: usize = LABELS as usize;
 
 /// Shows a look every record of a unit, in listing order, each with its distances.
 ///

@@ -7,11 +7,12 @@ use native.Mathlib.Omega.{arith}
 use lib.ListN.{get_or, get_or-map}
 use borrow.Author.Tests.{ne_eqb}
 use Rattle.std.proofs.Common.{Bor}
-use Rattle.std.specs.Prelude.{Option, Some, None}
+use Rattle.std.specs.Prelude.{Option, Some, None, unwrap_or}
 use Rattle.std.specs.Option.{option_copied, option_map}
 use Rattle.std.specs.List.{slice_get}
 use Rattle.std.specs.Slice.{IsItemAt}
-use Rattle.std.proofs.lemmas.Option.{slice_get_past, slice_get-get_or, slice_get-map}
+use Rattle.std.proofs.lemmas.Option.{slice_get_past, slice_get-get_or, slice_get-map, unwrap_or-slice_get}
+use Rattle.definitions.specs.Code.{unmarked}
 use Rattle.definitions.specs.Tag as definitions
 use Rattle.definitions.specs.Tag.{tag_size, row_of}
 use Rattle.laws.proofs.Sizes.{size_limit}
@@ -42,6 +43,10 @@ uses_mark false top h = refl
 pub copied_get : {X : Type 0} (xs : List X) (k : ℕ) (r : Option (Bor X)) → IsItemAt xs k r → option_copied r ≡ slice_get xs k
 copied_get xs k None h = sym (slice_get_past xs k h.3)
 copied_get xs k (Some x) h = sym (slice_get-get_or xs k x.now h.3.0 ∙ ap Some (sym h.1))
+
+-- what `get` lends of a label table, or the unmarked mark
+pub marked_as : (marks : List ℕ) (i l : ℕ) (r : Option (Bor ℕ)) → i ≡ l → IsItemAt marks i r → unwrap_or (option_copied r) unmarked ≡ get_or marks l unmarked
+marked_as marks i l r e h = rw (copied_get marks i r h, e) (unwrap_or-slice_get marks l unmarked)
 
 pub mapped_get : {X : Type 0} (f : X → ℕ) (xs : List X) (ns : List ℕ) (k : ℕ) (r : Option (Bor X)) → map f xs ≡ ns → IsItemAt xs k r → option_map f (option_copied r) ≡ slice_get ns k
 mapped_get f xs ns k r e h = rw (copied_get xs k r h, ← e) (sym (slice_get-map f xs k))

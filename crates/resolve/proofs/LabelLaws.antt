@@ -6,16 +6,12 @@ use mathlib.Core.List.{List}
 use native.Mathlib.Omega.{arith}
 use lib.ListN.{get_or}
 use borrow.Author.Tests.{lt-ltb, le-ltb, eq-eqb, ne_eqb}
-use Rattle.std.proofs.Common.{Bor}
-use Rattle.std.specs.Prelude.{Option, Some, None, Err, unwrap_or, ok_or, option_copied}
-use Rattle.std.specs.Slice.{IsItemAt}
-use Rattle.std.proofs.lemmas.Option.{unwrap_or-slice_get}
+use Rattle.std.specs.Prelude.{Some, None, Err, ok_or}
 use Rattle.definitions.specs.Answer.{made, checked}
 use Rattle.definitions.specs.Code.{unmarked}
 use Rattle.definitions.specs.Resolve.{in_range, word, distance_of}
 use Rattle.instr.specs.declared.refusals.Reason.TheVariants.{Unmarked, Distance}
 use Rattle.instr.specs.Refusals.{answer}
-use Rattle.instr.proofs.TableLaws.{copied_get}
 use Rattle.resolve.specs.Values.{near}
 use lib.IntN.{ℤ, sub_ℕ}
 
@@ -39,10 +35,6 @@ module _ (mark start : ℕ) where
   back_near h f = rw (lt-ltb mark start h, lt-ltb (start - suc mark) 32768 (omega arith)) (ap Some (omega arith))
 
 -- 2. A label
-
--- what `get` lends, or the unmarked mark
-pub marked_as : (marks : List ℕ) (i l : ℕ) (r : Option (Bor ℕ)) → i ≡ l → IsItemAt marks i r → unwrap_or (option_copied r) unmarked ≡ get_or marks l unmarked
-marked_as marks i l r e h = rw (copied_get marks i r h, e) (unwrap_or-slice_get marks l unmarked)
 
 module _ (marks : List ℕ) (start number extra l mark : ℕ) (m : mark ≡ get_or marks l unmarked) where
   pub label_unmarked : mark ≡ unmarked → answer {A = ℕ} (Err (record { reason = Unmarked; place = number; extra = extra })) ≡ distance_of marks start number extra l

@@ -7,6 +7,7 @@ ghost use Rattle.steps.specs.Walked.{instr_of};
 use crate::labels;
 use crate::records::Op;
 use crate::sinks::Sink;
+use instr::marks::UNMARKED;
 use instr::records::Record;
 use instr::tables;
 
@@ -45,7 +46,7 @@ impl Counters {
     pub fn add_label(&mut self, marks: &mut [u32])
         ensures { (self.new ≡ labelled_of self.old) × (marks.new ≡ unmarked_at self.old marks.old) }
     {
-        labels::put_mark(marks, self.labels as usize, labels::UNMARKED);
+        labels::put_mark(marks, self.labels as usize, UNMARKED);
         self.labels = self.labels.wrapping_add(1);
     }
 

@@ -9,8 +9,6 @@ use instr::refusals::{Reason, Refusal};
 
 pub const LABELS: u32 = 65536;
 
-pub(crate) const UNMARKED: u32 = 4294967295;
-
 // A mark, where it fits.
 pub(crate) fn put_mark(marks: &mut [u32], l: usize, v: u32)
     ensures { marks.new ≡ slice_set marks.old l v }
