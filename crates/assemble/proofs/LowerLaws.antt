@@ -33,7 +33,7 @@ use Rattle.steps.specs.Lent.{put_lent}
 use Rattle.steps.specs.declared.sinks.Listing.{Listing}
 use Rattle.steps.specs.Walked.{Accepted, after, fill_code, ran, target_of, span_of, Did}
 use Rattle.scan.specs.Scanned.{Fits}
-use Rattle.assemble.specs.Walk.{given, Walked}
+use Rattle.assemble.specs.Walk.{sink_after, Walked}
 use Rattle.assemble.specs.Whole.{unit_code, zeros, Lowers, answer, measuring}
 use Rattle.landing.specs.Walk.{Bytes}
 use Rattle.landing.proofs.Emitted.{listing_records}
@@ -100,8 +100,8 @@ listing_of b o = record { out = record { ref_ptr = b.ref_ptr; ghost_name = b.gho
 abbrev lists : Sinks Listing
 lists s offset number i = record { out = put_lent s.out number i }
 
-given_listed : (b : MutBor (List ℕ)) (x n : ℕ) (is : List Instr) → given lists x n is (record { out = b }) ≡ listing_of b (given puts x n is b.now)
-unfolding given
+given_listed : (b : MutBor (List ℕ)) (x n : ℕ) (is : List Instr) → sink_after lists x n is (record { out = b }) ≡ listing_of b (sink_after puts x n is b.now)
+unfolding sink_after
 given_listed b x n [] = refl
 given_listed b x n (i ∷ is) = given_listed (put_lent b n i) (x + size i) (suc n) is
 

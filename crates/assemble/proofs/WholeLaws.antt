@@ -25,7 +25,7 @@ use Rattle.assemble.specs.Whole.{zeros}
 use Rattle.laws.proofs.Inversion.{impossible, refusal_not_made}
 use Rattle.laws.proofs.Results.{made_is, onward_is}
 use Rattle.laws.proofs.Grows.{Grows, step_grows, grows}
-use Rattle.assemble.specs.Walk.{given}
+use Rattle.assemble.specs.Walk.{sink_after}
 use Rattle.laws.proofs.Widths.{Within, AllWithin}
 use Rattle.steps.specs.Running.{Sinks, Cells, cut, put, puts, set_made, move, run}
 
@@ -97,7 +97,7 @@ cutting K sink x n i = K sink x n (cut i)
 
 -- it was given the definition's instructions, whose size is the definition's offset; and where the label table fits, it stands over what the words held
 pub record Gave {S : Type 0} (K : Sinks S) (o : S) (m : List ℕ) (c : Cells S) (t : State) : Type 0 where
-  pub sink : c.sink ≡ given (cutting K) 0 0 t.instrs o
+  pub sink : c.sink ≡ sink_after (cutting K) 0 0 t.instrs o
   pub total : t.offset ≡ total_size t.instrs
   pub marks : length t.marks ≤ length m → c.marks ≡ t.marks ++ drop (length t.marks) m
 
@@ -107,15 +107,15 @@ total_snoc [] i = omega arith
 total_snoc (j ∷ is) i = omega (arith, total_snoc is i)
 
 -- one instruction more
-given_snoc : {S : Type 0} (K : Sinks S) (x n : ℕ) (is : List Instr) (i : Instr) (o : S) → given K x n (is ++ (i ∷ [])) o ≡ K (given K x n is o) (x + total_size is) (n + length is) i
-unfolding given total_size
+given_snoc : {S : Type 0} (K : Sinks S) (x n : ℕ) (is : List Instr) (i : Instr) (o : S) → sink_after K x n (is ++ (i ∷ [])) o ≡ K (sink_after K x n is o) (x + total_size is) (n + length is) i
+unfolding sink_after total_size
 given_snoc K x n [] i o = let a : x + 0 ≡ x = omega arith in let b : n + 0 ≡ n = omega arith in rw (a, b) refl
 given_snoc K x n (j ∷ is) i o =
     let a : x + size j + total_size is ≡ x + (size j + total_size is) = omega arith in
     let b : suc n + length is ≡ n + suc (length is) = omega arith in
     given_snoc K (x + size j) (suc n) is i (K o x n j) ∙ rw (a, b) refl
 
-given_next : {S : Type 0} (K : Sinks S) (is : List Instr) (i : Instr) (o : S) {x n : ℕ} → x ≡ total_size is → n ≡ length is → K (given K 0 0 is o) x n i ≡ given K 0 0 (is ++ (i ∷ [])) o
+given_next : {S : Type 0} (K : Sinks S) (is : List Instr) (i : Instr) (o : S) {x n : ℕ} → x ≡ total_size is → n ≡ length is → K (sink_after K 0 0 is o) x n i ≡ sink_after K 0 0 (is ++ (i ∷ [])) o
 given_next K is i o e f =
     let a : 0 + total_size is ≡ total_size is = omega arith in
     let b : 0 + length is ≡ length is = omega arith in
@@ -202,10 +202,10 @@ cut_is i h =
     let node : i.node % 2 ^ 32 ≡ i.node = omega (arith, h.node) in
     rw (small, first, second, flags, node) refl
 
-pub given_whole : {S : Type 0} (K : Sinks S) (x n : ℕ) (is : List Instr) (o : S) → AllWithin is → given (cutting K) x n is o ≡ given K x n is o
-unfolding given
+pub given_whole : {S : Type 0} (K : Sinks S) (x n : ℕ) (is : List Instr) (o : S) → AllWithin is → sink_after (cutting K) x n is o ≡ sink_after K x n is o
+unfolding sink_after
 given_whole K x n [] o h = refl
-given_whole K x n (i ∷ is) o h = ap (λ j. given (cutting K) (x + size i) (suc n) is (K o x n j)) (cut_is i h.0) ∙ given_whole K (x + size i) (suc n) is (K o x n i) h.1
+given_whole K x n (i ∷ is) o h = ap (λ j. sink_after (cutting K) (x + size i) (suc n) is (K o x n j)) (cut_is i h.0) ∙ given_whole K (x + size i) (suc n) is (K o x n i) h.1
 
 -- A lent buffer with room for them all: they stand after its front, and then what stood there
 
@@ -226,24 +226,24 @@ put_next o is i h =
     rw (put, whole, le-leb (listing_length (length is + 1)) (length o) h, a, b, d, records_snoc is i, ← (append_assoc (take front_length o) (records_bytes is) (record_bytes i))) (sym (append_assoc (take front_length o ++ records_bytes is) (record_bytes i) (drop (listing_length (length is + 1)) o)))
 
 given_puts : (js is : List Instr) (x : ℕ) (o : List ℕ) → listing_length (length js + length is) ≤ length o →
-    given puts x (length js) is ((take front_length o ++ records_bytes js) ++ drop (listing_length (length js)) o) ≡ (take front_length o ++ records_bytes (js ++ is)) ++ drop (listing_length (length js + length is)) o
-unfolding given
+    sink_after puts x (length js) is ((take front_length o ++ records_bytes js) ++ drop (listing_length (length js)) o) ≡ (take front_length o ++ records_bytes (js ++ is)) ++ drop (listing_length (length js + length is)) o
+unfolding sink_after
 given_puts js [] x o h = let z : length js + 0 ≡ length js = omega arith in rw (append-nil js, z) refl
 given_puts js (i ∷ is) x o h =
     let long : length (js ++ (i ∷ [])) ≡ length js + 1 = length-append js (i ∷ []) in
     let next : suc (length js) ≡ length (js ++ (i ∷ [])) = omega (arith, long) in
     let all : length (js ++ (i ∷ [])) + length is ≡ length js + suc (length is) = omega (arith, long) in
     let a = put_next o js i (omega (arith, h)) ∙ ap (λ k. (take front_length o ++ records_bytes (js ++ (i ∷ []))) ++ drop (listing_length k) o) (sym long) in
-    ap (λ b. given puts (x + size i) (suc (length js)) is b) a
-    ∙ ap (λ k. given puts (x + size i) k is ((take front_length o ++ records_bytes (js ++ (i ∷ []))) ++ drop (listing_length (length (js ++ (i ∷ [])))) o)) next
+    ap (λ b. sink_after puts (x + size i) (suc (length js)) is b) a
+    ∙ ap (λ k. sink_after puts (x + size i) k is ((take front_length o ++ records_bytes (js ++ (i ∷ []))) ++ drop (listing_length (length (js ++ (i ∷ [])))) o)) next
     ∙ given_puts (js ++ (i ∷ [])) is (x + size i) o (omega (arith, h, all))
     ∙ rw (all, append_assoc js (i ∷ []) is) refl
 
-pub puts_all : (is : List Instr) (o : List ℕ) → listing_length (length is) ≤ length o → given puts 0 0 is o ≡ (take front_length o ++ records_bytes is) ++ drop (listing_length (length is)) o
+pub puts_all : (is : List Instr) (o : List ℕ) → listing_length (length is) ≤ length o → sink_after puts 0 0 is o ≡ (take front_length o ++ records_bytes is) ++ drop (listing_length (length is)) o
 unfolding records_bytes
 puts_all is o h =
     let z : 0 + length is ≡ length is = omega arith in
-    ap (λ b. given puts 0 0 is b) (sym (rw (append-nil (take front_length o)) (take-append-drop front_length o)))
+    ap (λ b. sink_after puts 0 0 is b) (sym (rw (append-nil (take front_length o)) (take-append-drop front_length o)))
     ∙ rw z at (given_puts [] is 0 o (rw (sym z) at h))
 
 -- 4. A unit
@@ -295,6 +295,6 @@ module _ (s : List ℕ) (u : Script) (next : ℕ) (read : parse_unit s ≡ ok u 
 
   -- the sink, and the marks where the label table fits
   pub unit_gave : {S : Type 0} (K : Sinks S) (o : S) (m : List ℕ) (c : Cells S) → run K (code_of u) (zeros o m) ≡ made c → (k : Totals c) → Gave K o m c k.state
-  unfolding given total_size
+  unfolding sink_after total_size
   unit_gave K o m c e k =
       gave K (code_of u) o m (zeros o m) start c k.state (zero_counts o m) (record { sink = refl; total = refl; marks = λ h. refl }) e k.walks_to k.small

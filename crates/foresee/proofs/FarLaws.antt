@@ -18,20 +18,21 @@ use Rattle.definitions.specs.Stage.{labelled, lowered, measure}
 use Rattle.definitions.specs.Tag.{row_of}
 use Rattle.definitions.specs.Tree.{Script}
 use Rattle.instr.specs.declared.refusals.Refusal.{Refusal}
+use Rattle.instr.specs.Refusals.{answer}
 use Rattle.landing.specs.Landed.{Carried, CarriedIn}
 use Rattle.landing.proofs.Theorem.{landing}
 use Rattle.laws.proofs.Inversion.{refusal_not_made}
 use Rattle.laws.proofs.Results.{onward_assoc}
 use Rattle.steps.specs.declared.counters.Counters.{Counters}
-use Rattle.assemble.specs.Walk.{given}
+use Rattle.assemble.specs.Walk.{sink_after}
 use Rattle.assemble.specs.Whole.{measuring}
 use Rattle.assemble.proofs.MeasureLaws.{measured_state, measured_refusal}
 use Rattle.foresee.specs.Distances.{distance_if, distances_of}
 use Rattle.foresee.specs.Looks.{Seen, seen_all, seen_of}
-use Rattle.foresee.specs.Far.{is_far, far_of, looked, distant, told, foreseen}
+use Rattle.foresee.specs.Far.{is_far, far_of, first_found, too_far_in, first_too_far}
 use Rattle.foresee.specs.declared.distances.Distances.{Distances}
 use Rattle.foresee.specs.declared.far.Far.{Far}
-use Rattle.foresee.specs.declared.far.Nearness.{Nearness}
+use Rattle.foresee.specs.declared.far.FirstFar.{FirstFar}
 
 -- 1. What is too far
 
@@ -64,27 +65,27 @@ far_ahead o d z e f h = rw (e, f) (go d (rw f at h))
 
 -- 2. What is remembered
 
-abbrev looks : Seen Nearness
-looks s offset number i distances = record { first_far = looked s.first_far number distances }
+abbrev looks : Seen FirstFar
+looks s offset number i distances = record { found = first_found s.found number distances }
 
-pub looks_now : (f g : Option Far) (n : ℕ) (d : Distances) → is_some f ≡ false → g ≡ far_of n d → ◌≡◌ {A = Nearness} (record { first_far = g }) (record { first_far = looked f n d })
-unfolding looked
+pub looks_now : (f g : Option Far) (n : ℕ) (d : Distances) → is_some f ≡ false → g ≡ far_of n d → ◌≡◌ {A = FirstFar} (record { found = g }) (record { found = first_found f n d })
+unfolding first_found
 looks_now (Some h) g n d e f = absurd (true≢false e)
 looks_now None g n d e f = rw f
 
 -- what was found stays
-pub looks_on : (s : Nearness) (n : ℕ) (d : Distances) → is_some s.first_far ≡ true → s ≡ record { first_far = looked s.first_far n d }
-unfolding looked
-looks_on s n d h = ap (λ f. record { first_far = f }) (go s.first_far h)
+pub looks_on : (s : FirstFar) (n : ℕ) (d : Distances) → is_some s.found ≡ true → s ≡ record { found = first_found s.found n d }
+unfolding first_found
+looks_on s n d h = ap (λ f. record { found = f }) (go s.found h)
   where
-    go : (f : Option Far) → is_some f ≡ true → f ≡ looked f n d
+    go : (f : Option Far) → is_some f ≡ true → f ≡ first_found f n d
     go (Some f) h = refl
     go None h = absurd (true≢false (sym h))
 
-found : (marks : List ℕ) (x n : ℕ) (is : List Instr) (f : Far) → seen_all looks marks x n is (record { first_far = Some f }) ≡ record { first_far = Some f }
-unfolding given looked
-found marks x n [] f = refl
-found marks x n (i ∷ is) f = found marks (x + size i) (suc n) is f
+found_stays : (marks : List ℕ) (x n : ℕ) (is : List Instr) (f : Far) → seen_all looks marks x n is (record { found = Some f }) ≡ record { found = Some f }
+unfolding sink_after first_found
+found_stays marks x n [] f = refl
+found_stays marks x n (i ∷ is) f = found_stays marks (x + size i) (suc n) is f
 
 -- 3. A field, a record, all records
 
@@ -113,42 +114,62 @@ record_told marks x n i k rest h c d =
     onward_assoc (resolve_field (row_of i.tag).first marks x n 0 i.first) _ k
     ∙ field_told (row_of i.tag).first marks x n 0 i.first _ _ (λ f. onward_assoc (resolve_field (row_of i.tag).second marks x n 1 i.second) _ k ∙ field_told (row_of i.tag).second marks x n 1 i.second _ rest (λ s. h _) d) c
 
+-- what is told of a distance that is too far: 32, of its record and its operand
+unfoldable told : Option Far → Result (Unit {0})
+told None = made tt
+told (Some f) = refusal 32 f.number f.operand
+
 -- the first of a record, and then what comes after it
 then_told : (marks : List ℕ) (x n : ℕ) (is : List Instr) (m : ℕ) (a b : Bool) →
-    cond a (refusal 32 m 0) (cond b (refusal 32 m 1) (told (seen_all looks marks x n is (record { first_far = None })).first_far)) ≡
-    told (seen_all looks marks x n is (record { first_far = cond a (Some (record { number = m; operand = 0 })) (cond b (Some (record { number = m; operand = 1 })) None) })).first_far
+    cond a (refusal 32 m 0) (cond b (refusal 32 m 1) (told (seen_all looks marks x n is (record { found = None })).found)) ≡
+    told (seen_all looks marks x n is (record { found = cond a (Some (record { number = m; operand = 0 })) (cond b (Some (record { number = m; operand = 1 })) None) })).found
 unfolding told
-then_told marks x n is m true b = rw (found marks x n is (record { number = m; operand = 0 })) refl
-then_told marks x n is m false true = rw (found marks x n is (record { number = m; operand = 1 })) refl
+then_told marks x n is m true b = rw (found_stays marks x n is (record { number = m; operand = 0 })) refl
+then_told marks x n is m false true = rw (found_stays marks x n is (record { number = m; operand = 1 })) refl
 then_told marks x n is m false false = refl
 
-records_told : (marks : List ℕ) (x n : ℕ) (is : List Instr) → ((j : ℕ) → Carried j is → Marked marks j) → nothing_of (resolve_records marks x n is) ≡ told (seen_all looks marks x n is (record { first_far = None })).first_far
-unfolding resolve_records given looked far_of Carried onward told
+records_told : (marks : List ℕ) (x n : ℕ) (is : List Instr) → ((j : ℕ) → Carried j is → Marked marks j) → nothing_of (resolve_records marks x n is) ≡ told (seen_all looks marks x n is (record { found = None })).found
+unfolding resolve_records sink_after first_found far_of Carried onward told
 records_told marks x n [] c = refl
 records_told marks x n (i ∷ is) c =
     onward_assoc (resolve_record marks x n i) _ _
-    ∙ record_told marks x n i _ (told (seen_all looks marks (x + size i) (suc n) is (record { first_far = None })).first_far)
+    ∙ record_told marks x n i _ (told (seen_all looks marks (x + size i) (suc n) is (record { found = None })).found)
     (λ r. onward_assoc (resolve_records marks (x + size i) (suc n) is) _ _ ∙ records_told marks (x + size i) (suc n) is (λ j d. c j (inr (inr d))))
     (λ j d. c j (inl d)) (λ j d. c j (inr (inl d)))
     ∙ then_told marks (x + size i) (suc n) is n (is_far (distances_of marks x i).first) (is_far (distances_of marks x i).second)
 
+told_is : {A : Type 0} (r : Result A) (f : Option Far) → nothing_of r ≡ told f → too_far_in r ≡ f
+unfolding told too_far_in onward
+told_is (made a) None e = refl
+told_is (made a) (Some f) e = refusal_not_made (sym e)
+told_is (refusal n p x) None e = refusal_not_made e
+told_is (refusal n p x) (Some f) e =
+    let a : n ≡ 32 = cc in
+    let b : p ≡ f.number = cc in
+    let c : x ≡ f.operand = cc in
+    rw (a, b, c) refl
+
 -- 4. A unit
 
-unit_told : (s : List ℕ) (t : State) → labelled s ≡ made t → distant t.marks t.instrs ≡ told (seen_all looks t.marks 0 0 t.instrs (record { first_far = None })).first_far
-unfolding lowered distant
-unit_told s t e = go (parse_unit s) refl e
+unit_found : (s : List ℕ) (t : State) → labelled s ≡ made t → first_too_far t ≡ (seen_all looks t.marks 0 0 t.instrs (record { found = None })).found
+unfolding lowered
+unit_found s t e = go (parse_unit s) refl e
   where
-    go : (x : Answer Script) → parse_unit s ≡ x → lowered x ≡ made t → distant t.marks t.instrs ≡ told (seen_all looks t.marks 0 0 t.instrs (record { first_far = None })).first_far
-    go (ok u next) i f = let land = landing s u next i t f in records_told t.marks 0 0 t.instrs (λ j c z. omega (arith, (land.marked j c).2, z))
+    go : (x : Answer Script) → parse_unit s ≡ x → lowered x ≡ made t → first_too_far t ≡ (seen_all looks t.marks 0 0 t.instrs (record { found = None })).found
+    go (ok u next) i f =
+        let land = landing s u next i t f in
+        told_is (resolve_records t.marks 0 0 t.instrs) _ (records_told t.marks 0 0 t.instrs (λ j c z. omega (arith, (land.marked j c).2, z)))
     go (refused n p x) i f = refusal_not_made f
 
-pub foreseen_refused : (s : List ℕ) (q : Refusal) (r : std.Result (Option Far) Refusal) → std.IsErrAnd r (λ e. e ≡ q) → measuring (Err q) ≡ measure s → foreseen r ≡ onward (labelled s) (λ t. distant t.marks t.instrs)
-unfolding foreseen onward
+pub foreseen_refused : (s : List ℕ) (q : Refusal) (r : std.Result (Option Far) Refusal) → std.IsErrAnd r (λ e. e ≡ q) → measuring (Err q) ≡ measure s →
+    answer r ≡ onward (labelled s) (λ t. made (first_too_far t))
+unfolding answer onward
 foreseen_refused s q r h e = let p = err_from_is_err_and r h in rw (p.1, p.2, measured_refusal s q e, onward)
 
-pub foreseen_all : (s : List ℕ) (c : Counters) (look : Nearness) → measuring (Ok c) ≡ measure s → look ≡ seen_of looks (labelled s) (record { first_far = None }) → foreseen (Ok look.first_far) ≡ onward (labelled s) (λ t. distant t.marks t.instrs)
-unfolding foreseen seen_of onward
+pub foreseen_all : (s : List ℕ) (c : Counters) (look : FirstFar) → measuring (Ok c) ≡ measure s → look ≡ seen_of looks (labelled s) (record { found = None }) →
+    answer (Ok look.found) ≡ onward (labelled s) (λ t. made (first_too_far t))
+unfolding answer seen_of onward
 foreseen_all s c look e f =
     let t = measured_state s c e in
-    let k : look ≡ seen_all looks t.0.marks 0 0 t.0.instrs (record { first_far = None }) = f ∙ rw (t.1, seen_of) refl in
-    rw (t.1, onward) (ap (λ (z : Nearness). told z.first_far) k ∙ sym (unit_told s t.0 t.1))
+    let k : look ≡ seen_all looks t.0.marks 0 0 t.0.instrs (record { found = None }) = f ∙ rw (t.1, seen_of) refl in
+    rw (t.1, onward) (ap (λ (z : FirstFar). made z.found) k ∙ ap made (sym (unit_found s t.0 t.1)))

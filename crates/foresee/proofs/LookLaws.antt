@@ -19,7 +19,7 @@ use Rattle.laws.proofs.Inversion.{refusal_not_made}
 use Rattle.laws.proofs.Results.{made_is}
 use Rattle.steps.specs.Running.{Sinks}
 use Rattle.steps.specs.declared.counters.Counters.{Counters}
-use Rattle.assemble.specs.Walk.{given, Walked}
+use Rattle.assemble.specs.Walk.{sink_after, Walked}
 use Rattle.assemble.specs.Whole.{measuring}
 use Rattle.assemble.proofs.MeasureLaws.{measures, measured_state, measured_refusal}
 use Rattle.foresee.specs.Distances.{distance_if}
@@ -49,8 +49,8 @@ shows seen s offset number i = record { marks = s.marks; look = look_lent seen s
 abbrev after : {L : Type 0} → Bor (List ℕ) → MutBor L → L → Looking L
 after marks b look = record { marks = marks; look = record { ref_ptr = b.ref_ptr; ghost_name = b.ghost_name; now = look } }
 
-shown : {L : Type 0} (seen : Seen L) (marks : Bor (List ℕ)) (b : MutBor L) (x n : ℕ) (is : List Instr) → given (shows seen) x n is (record { marks = marks; look = b }) ≡ after marks b (seen_all seen marks.now x n is b.now)
-unfolding given
+shown : {L : Type 0} (seen : Seen L) (marks : Bor (List ℕ)) (b : MutBor L) (x n : ℕ) (is : List Instr) → sink_after (shows seen) x n is (record { marks = marks; look = b }) ≡ after marks b (seen_all seen marks.now x n is b.now)
+unfolding sink_after
 shown seen marks b x n [] = refl
 shown seen marks b x n (i ∷ is) = shown seen marks (look_lent seen marks.now b x n i) (x + size i) (suc n) is
 

@@ -1,8 +1,9 @@
 // Which distance of a unit is the first that sixteen bits cannot hold.
 ghost use Rattle.std.specs.Prelude.{◌≡◌};
-ghost use Rattle.definitions.specs.Answer.{onward};
+ghost use Rattle.definitions.specs.Answer.{made, onward};
 ghost use Rattle.definitions.specs.Stage.{labelled};
-ghost use Rattle.foresee.specs.Far.{is_far, far_of, looked, distant, foreseen};
+ghost use Rattle.instr.specs.Refusals.{answer};
+ghost use Rattle.foresee.specs.Far.{is_far, far_of, first_found, first_too_far};
 
 use crate::distances::Distances;
 use crate::looks::{Look, look_over};
@@ -22,7 +23,7 @@ pub struct Far {
     pub operand: u32,
 }
 
-// Whether a distance is too far. One that there is not is not.
+// Whether a distance is outside sixteen bits. A field that carries no label has none, which is not.
 fn is_far(distance: Option<i64>) -> bool
     ensures { result ≡ is_far distance }
 {
@@ -45,19 +46,19 @@ fn far_of(number: u32, distances: Distances) -> Option<Far>
     None
 }
 
-/// A look that remembers the first distance that is too far.
+// A look that remembers the first distance that is too far.
 #[derive(Clone, Copy, Debug, PartialEq, Eq)]
-pub struct Nearness {
-    pub first_far: Option<Far>,
+struct FirstFar {
+    found: Option<Far>,
 }
 
-impl Look for Nearness {
+impl Look for FirstFar {
     ghost seen = { λ s offset number i distances.
-        record { first_far = looked s.first_far number distances } };
+        record { found = first_found s.found number distances } };
 
     fn record(&mut self, _offset: u32, number: u32, _record: Record, distances: Distances) {
-        if self.first_far.is_none() {
-            self.first_far = far_of(number, distances);
+        if self.found.is_none() {
+            self.found = far_of(number, distances);
         }
     }
 }
@@ -68,9 +69,9 @@ impl Look for Nearness {
 ///
 /// It takes what `look_over` takes: two or three walks, and the stack for the label table.
 pub fn foresee(unit: &[u8]) -> Result<Option<Far>, Refusal>
-    ensures { foreseen result ≡ onward (labelled unit.now) (λ t. distant t.marks t.instrs) }
+    ensures { answer result ≡ onward (labelled unit.now) (λ t. made (first_too_far t)) }
 {
-    let mut nearness = Nearness { first_far: None };
-    look_over(unit, &mut nearness)?;
-    Ok(nearness.first_far)
+    let mut first = FirstFar { found: None };
+    look_over(unit, &mut first)?;
+    Ok(first.found)
 }

@@ -4,6 +4,7 @@ use mathlib.Core.Bool.{Bool, true, false, not}
 use mathlib.Core.List.{List, map}
 use Prim.Native.Nat.{ℕ, ◌≤◌, ◌<◌}
 use native.Mathlib.Omega.{arith}
+use lib.Dec.{eqb}
 use lib.ListN.{get_or, get_or-map}
 use borrow.Author.Tests.{ne_eqb}
 use Rattle.std.proofs.Common.{Bor}
@@ -17,7 +18,7 @@ use Rattle.definitions.specs.Tag as definitions
 use Rattle.definitions.specs.Tag.{tag_size, row_of}
 use Rattle.laws.proofs.Sizes.{size_limit}
 use Rattle.instr.specs.declared.tables.Row.{Row}
-use Rattle.instr.specs.Values.{mark, uses, row_marks}
+use Rattle.instr.specs.Values.{mark, row_marks}
 
 -- the size at a tag is that of the tag with the same number
 pub size_at : {t n : ℕ} → n ≡ t → (tag_size n ≡ tag_size t) × (tag_size n ≤ 17)
@@ -34,7 +35,10 @@ pub row_at : {t n : ℕ} → n ≡ t → get_or the_rows n (row_marks none) ≡ 
 unfolding row_of the_rows
 row_at {t} {n} e = get_or-map row_marks definitions.rows n none ∙ ap (λ k. row_marks (row_of k)) e
 
--- a mark says whether its field is used
+-- whether a tag uses the field with this mark
+abbrev pub uses : (mark : ℕ) → Bool
+uses n = not (eqb n 0)
+
 pub uses_mark : (used : Bool) (top : ℕ) → 0 < top → uses (mark used top) ≡ used
 uses_mark true top h = ap not (ne_eqb top 0 (λ e. absurd (omega (arith, h, e))))
 uses_mark false top h = refl

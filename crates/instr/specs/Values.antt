@@ -1,5 +1,5 @@
 -- The code's rows, records and answers, in the words of the definitions.
-use Rattle.std.specs.Prelude.{ℕ, ◌+◌, ◌*◌, Bool, cond, ◌&&◌, not, eqb, List, [], ◌∷◌, ◌++◌, leb, length, take, drop, Option, Some, None, Result, Ok, Err}
+use Rattle.std.specs.Prelude.{ℕ, ◌+◌, ◌*◌, Bool, cond, ◌&&◌, List, [], ◌∷◌, ◌++◌, leb, length, take, drop, Option, Some, None, Result, Ok, Err}
 use Rattle.definitions.specs.Answer as answers
 use Rattle.definitions.specs.Answer.{made, refusal}
 use Rattle.definitions.specs.Bytes.{bytes}
@@ -14,10 +14,6 @@ use Rattle.instr.specs.Refusals.{number_of}
 -- a field's mark in the code's table: the most that the field may hold, `top` where its tag uses it and else 0
 abbrev pub mark : (used : Bool) (top : ℕ) → ℕ
 mark used top = cond used top 0
-
--- and back: whether a tag uses the field with this mark
-abbrev pub uses : (mark : ℕ) → Bool
-uses n = not (eqb n 0)
 
 -- a row of the code's table: the marks of the definitions' row, with the widths of a record's fields
 abbrev pub row_marks : definitions.Row → Row

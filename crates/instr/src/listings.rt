@@ -14,8 +14,6 @@ pub const VERSION: u8 = 1;
 
 const LENGTH_AT: usize = 1;
 
-const LENGTH_WIDTH: usize = 4;
-
 // Record n begins at FRONT + Record::LENGTH * n, written out where it is used: a function of n would have to ask that this fits.
 pub const FRONT: usize = 5;
 
@@ -34,7 +32,7 @@ pub fn write_front(out: &mut [u8], count: u32) -> bool
         return false;
     }
     out[0] = VERSION;
-    numbers::put_number(out, LENGTH_AT, LENGTH_WIDTH, (Record::LENGTH * n) as u64);
+    numbers::put_u32(out, LENGTH_AT, (Record::LENGTH * n) as u32);
     true
 }
 

@@ -85,7 +85,7 @@ pub fn u64_at(s: &[u8], at: usize) -> u64
     number_at::<8>(s, at)
 }
 
-// The same two for bytes that are in the slice.
+/// Two bytes at a place that is in the slice, as a number.
 pub fn u16_inside(s: &[u8], at: usize) -> u16
     requires { at + 2 ≤ length s.now }
     ensures { (result ≡ number 2 s.now at) × (result < 2 ^ 16) }
@@ -93,6 +93,7 @@ pub fn u16_inside(s: &[u8], at: usize) -> u16
     number_inside::<2>(s, at) as u16
 }
 
+/// Four bytes at a place that is in the slice, as a number.
 pub fn u32_inside(s: &[u8], at: usize) -> usize
     requires { at + 4 ≤ length s.now }
     ensures { (result ≡ number 4 s.now at) × (result < 2 ^ 32) }
@@ -112,7 +113,7 @@ pub fn put_number(part: &mut [u8], at: usize, w: usize, v: u64)
     }
 }
 
-// The same by a number of each type: one store.
+/// One byte at a place of a part; the others stay.
 pub fn put_u8(part: &mut [u8], at: usize, v: u8)
     requires { at + 1 ≤ length part.old }
     ensures { part.new ≡ stored at 1 v part.old }
@@ -120,6 +121,7 @@ pub fn put_u8(part: &mut [u8], at: usize, v: u8)
     part[at] = v;
 }
 
+/// A number stored in two bytes of a part, the highest first; the others stay. Each width is one store.
 pub fn put_u16(part: &mut [u8], at: usize, v: u16)
     requires { at + 2 ≤ length part.old }
     ensures { part.new ≡ stored at 2 v part.old }
@@ -127,6 +129,7 @@ pub fn put_u16(part: &mut [u8], at: usize, v: u16)
     part[at..at + 2].copy_from_slice(&v.to_be_bytes());
 }
 
+/// The same in four bytes.
 pub fn put_u32(part: &mut [u8], at: usize, v: u32)
     requires { at + 4 ≤ length part.old }
     ensures { part.new ≡ stored at 4 v part.old }
@@ -134,6 +137,7 @@ pub fn put_u32(part: &mut [u8], at: usize, v: u32)
     part[at..at + 4].copy_from_slice(&v.to_be_bytes());
 }
 
+/// The same in eight bytes.
 pub fn put_u64(part: &mut [u8], at: usize, v: u64)
     requires { at + 8 ≤ length part.old }
     ensures { part.new ≡ stored at 8 v part.old }

@@ -80,10 +80,10 @@ pub(crate) fn read_inside(s: &[u8], at: usize) -> Record
     Record {
         tag: s[at + Record::TAG],
         small: s[at + Record::SMALL],
-        first: numbers::number_inside::<2>(s, at + Record::FIRST) as u16,
-        second: numbers::number_inside::<2>(s, at + Record::SECOND) as u16,
-        line: numbers::number_inside::<2>(s, at + Record::LINE) as u16,
-        flags: numbers::number_inside::<2>(s, at + Record::FLAGS) as u16,
+        first: numbers::u16_inside(s, at + Record::FIRST),
+        second: numbers::u16_inside(s, at + Record::SECOND),
+        line: numbers::u16_inside(s, at + Record::LINE),
+        flags: numbers::u16_inside(s, at + Record::FLAGS),
         value: numbers::number_inside::<8>(s, at + Record::VALUE),
         node: numbers::number_inside::<4>(s, at + Record::NODE) as u32,
     }

@@ -13,9 +13,9 @@ use Rattle.definitions.specs.Instr.{Instr, record_at}
 use Rattle.instr.specs.declared.refusals.Refusal.{Refusal}
 use Rattle.instr.specs.declared.tables.Row.{Row}
 use Rattle.instr.specs.Refusals.{answer}
-use Rattle.instr.specs.Values.{uses, row_marks}
+use Rattle.instr.specs.Values.{row_marks}
 use Rattle.instr.proofs.NumberLaws.{one_byte}
-use Rattle.instr.proofs.TableLaws.{uses_mark}
+use Rattle.instr.proofs.TableLaws.{uses, uses_mark}
 use Rattle.resolve.specs.Mapping.{Mapped, map_field, map_fields, relabelled, map_record}
 
 -- 1. Its tag is the byte that it begins with, so what is told of that byte is told of the tag

@@ -103,7 +103,7 @@ fn check_fields<M: Mapping>(mapping: &M, listing: &[u8], count: usize) -> Result
         let at = listings::FRONT + Record::LENGTH * number;
         let tag = listing[at];
         let row = tables::row_of(tag);
-        if row.first | row.second != 0 {
+        if (row.first | row.second) != 0 {
             let carrier = Carrier { tag, start, number };
             map_fields(mapping, row, carrier, listing, at)?;
         }
@@ -126,7 +126,7 @@ fn write_fields<M: Mapping>(mapping: &M, listing: &[u8], count: usize, out: &mut
         let at = listings::FRONT + Record::LENGTH * number;
         let tag = listing[at];
         let row = tables::row_of(tag);
-        if row.first | row.second != 0 {
+        if (row.first | row.second) != 0 {
             let carrier = Carrier {
                 tag,
                 start: offset,

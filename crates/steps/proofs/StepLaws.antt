@@ -8,9 +8,9 @@ use Rattle.definitions.specs.Instr.{Instr, record_length, size, plain}
 use Rattle.definitions.specs.Listing.{listing_length}
 use Rattle.definitions.specs.Code.{Code, done, ◌then◌, label, Action, mark, new, emit, refuse, label_limit, act}
 use Rattle.definitions.specs.Lower.{require, jump_to, jump, instr, weak_to_ref, nops}
-use Rattle.instr.specs.Values.{written, uses, row_marks}
+use Rattle.instr.specs.Values.{written, row_marks}
 use Rattle.instr.specs.declared.tables.Row.{Row}
-use Rattle.instr.proofs.TableLaws.{uses_mark}
+use Rattle.instr.proofs.TableLaws.{uses, uses_mark}
 use Rattle.definitions.specs.Answer.{onward, checked}
 use Rattle.laws.proofs.Sizes.{size_is}
 use Rattle.laws.proofs.Results.{onward_assoc, onward_made, onward_same}

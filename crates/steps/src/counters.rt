@@ -11,7 +11,7 @@ use instr::marks::UNMARKED;
 use instr::records::Record;
 use instr::tables;
 
-// What has been emitted: its virtual size, how many labels, how many records.
+/// What has been emitted: its virtual size, how many labels, how many records.
 #[derive(Clone, Copy, Debug, PartialEq, Eq)]
 pub struct Counters {
     pub offset: u32,

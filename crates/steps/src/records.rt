@@ -1,4 +1,4 @@
-// Records: each is written where it fits.
+// Records: what each step emits, and how one is written where it fits.
 ghost use Rattle.std.specs.Prelude.{◌≡◌, ◌%◌, ◌^◌, cond};
 ghost use Rattle.definitions.specs.Instr.{plain};
 ghost use Rattle.definitions.specs.Code.{Action, act};

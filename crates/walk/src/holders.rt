@@ -2,8 +2,8 @@
 use steps::places::Nodes;
 use steps::spans::BlockSpan;
 
-// A node or a run: the nodes in it, and where their break and continue go. The counters and the two lent buffers are no fields: each method
-// would have to say of each buffer that it is the same one. Methods borrow it: by value, the stage took a tenth longer on flat blocks.
+// A node or a run: the nodes in it, and where their break and continue go. The counters, the sink and the marks are no fields: each method
+// would have to say of each that it is the same one. Methods borrow it: by value, the stage took a tenth longer on flat blocks.
 // That a node was read, or that it lies before the end, is said of a place in it by each method: a struct of a holder and a place would be
 // built for every node, with the proof there, and its methods would say no less.
 #[derive(Clone, Copy)]

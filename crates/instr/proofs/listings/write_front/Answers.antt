@@ -20,7 +20,7 @@ pub returns : goal.returns
 returns c =
     let a = c.args in
     let e = front_room a.count a.out.now c.if-n-gt-MOST_RECORDS.false c.if-out-lt-FRONT.false in
-    (e, front_put a.count a.out.now e c.if-out-lt-FRONT.false c.put_number.ensures)
+    (e, front_put a.count a.out.now e c.if-out-lt-FRONT.false c.put_u32.ensures)
 
 pub shape_of-out : goal.shape_of-out
-shape_of-out c = c.put_number.auto.part ∙ length-set c.args.out.now 0 1
+shape_of-out c = c.put_u32.auto.part ∙ length-set c.args.out.now 0 1
