@@ -29,7 +29,7 @@ use Rattle.assemble.specs.Walk.{sink_after}
 use Rattle.laws.proofs.Widths.{Within, AllWithin}
 use Rattle.steps.specs.Running.{Sinks, Cells, cut, put, puts, set_made, move, run}
 
--- 1. Counters and refusals, whatever the buffers hold
+-- 1. Counters and refusals, whatever the sink and the marks
 
 pub record Counts {S : Type 0} (c : Cells S) (t : State) : Type 0 where
   pub labels : c.labels ≡ length t.marks
@@ -68,7 +68,7 @@ unfolding onward
 then_agrees x y f g (both_go c t k) h = h c t k
 then_agrees x y f g (both_stop n p e) h = both_stop n p e
 
--- ON ANY BUFFERS, EMPTY ONES TOO: the same refusals, and the definition's totals modulo 2 ^ 32
+-- ON ANY SINK AND ANY MARKS: the same refusals, and the definition's totals modulo 2 ^ 32
 pub agrees : {S : Type 0} (K : Sinks S) (code : Code) (c : Cells S) (t : State) → Counts c t → Agrees (run K code c) (execute code t)
 unfolding run execute
 agrees K done c t k = both_go c t k

@@ -1,4 +1,5 @@
-// Lowering: from the bytes of a unit to its labelled listing and its label table, by the walk of `walk`; and what a unit takes.
+// Lowering: from the bytes of a unit to its labelled listing and its label table, by the walk of
+// `walk`; and what a unit takes.
 #![tactic(auto)]
 
 ghost use Rattle.std.specs.Prelude.{◌≡◌, true, length};
@@ -48,8 +49,8 @@ fn list_unit(s: &[u8], out: &mut [u8], marks: &mut [u32]) -> Result<Counters, Re
     walk(s, &mut sink, marks)
 }
 
-/// What a unit takes: its totals, whatever room there is, or the refusal in reading or in the walk, 1 to 5 or 10 to 15. The walk keeps no
-/// record and no mark.
+/// What a unit takes: its totals, whatever room there is, or the refusal in reading or in the walk,
+/// 1 to 5 or 10 to 15. The walk keeps no record and no mark.
 #[tactic(auto, using(crate::proofs::MeasureLaws::read_accepted, crate::proofs::MeasureLaws::read_refused, crate::proofs::MeasureLaws::measures))]
 pub fn measure(unit: &[u8]) -> Result<Counters, Refusal>
     ensures { measuring result ≡ measure unit.now }
@@ -69,7 +70,8 @@ fn fill(s: &[u8], out: &mut [u8], marks: &mut [u32]) -> Result<Counters, Refusal
     Ok(c)
 }
 
-// Whether one scan of a unit says that it is lowered into buffers of so many bytes and words. False says nothing.
+// Whether one scan of a unit says that it is lowered into buffers of so many bytes and words. False
+// says nothing.
 fn fits_in(unit: &[u8], bytes: usize, words: usize) -> bool
     ensures { result ≡ true → Lowers unit.now bytes words }
 {
@@ -79,12 +81,15 @@ fn fits_in(unit: &[u8], bytes: usize, words: usize) -> bool
     scan::fits(unit, room / Record::LENGTH, words.min(LABELS as usize))
 }
 
-/// The labelled listing and the label marks of a unit, or the refusal, which leaves both buffers as they were.
+/// The labelled listing and the label marks of a unit, or the refusal, which leaves both buffers as
+/// they were.
 ///
-/// Two forms of the same. The plain one is `measure` and `fill`: the unit is read and walked for its totals, which say whether there is room,
-/// and walked again. The fast one stands before it, for units as they mostly are: where one scan says that the unit is lowered into these
-/// buffers, neither the reader nor the first walk could refuse it, so the one walk that writes is all that is left. The contract says that
-/// both give what the definition gives; where the scan says nothing, the plain form decides.
+/// Two forms of the same. The plain one is `measure` and `fill`: the unit is read and walked for
+/// its totals, which say whether there is room, and walked again. The fast one stands before it,
+/// for units as they mostly are: where one scan says that the unit is lowered into these buffers,
+/// neither the reader nor the first walk could refuse it, so the one walk that writes is all that
+/// is left. The contract says that both give what the definition gives; where the scan says
+/// nothing, the plain form decides.
 #[tactic(auto, using(crate::proofs::LowerLaws::lower_refused, crate::proofs::LowerLaws::lower_room, crate::proofs::LowerLaws::lower_table, crate::proofs::LowerLaws::lower_fits))]
 pub fn lower(unit: &[u8], out: &mut [u8], marks: &mut [u32]) -> Result<Counters, Refusal>
     ensures { answer result out.new marks.new ≡ lower_to (lower_into unit.now (length out.old) (length marks.old)) out.old marks.old }
