@@ -21,7 +21,7 @@ use Rattle.instr.specs.Refusals.{number_of}
 use Rattle.std.proofs.lemmas.Result.{err_from_is_err_and}
 use Rattle.steps.specs.Running.{Sinks, Cells, cut, put, set_made, move, run, Note, noted}
 use Rattle.steps.specs.Counting.{emitted_of, labelled_of, unmarked_at, marked_at}
-use Rattle.steps.specs.Walked.{group_label, open_code, mark_if, Made, Opened, MarksIf, after, ran, labels_of, target_of, Ran, EmittedFrom, LabelledFrom, LeftFrom, Walk}
+use Rattle.steps.specs.Walked.{group_label, open_code, mark_if, Made, Opened, MarksIf, after, ran, labels_of, target_of, checked_as, JumpsTo, Ran, Emits, EmittedFrom, LabelledFrom, LeftFrom, Left, Walk}
 use Rattle.steps.specs.declared.counters.Counters.{Counters}
 use Rattle.steps.proofs.SinkLaws.{map_cells, carried, pour, from_notes, anywhere}
 
@@ -216,14 +216,11 @@ module _ {A : Type 0} (r : std.Result A Refusal) (q : Refusal) (h : std.IsErrAnd
   pub left_exit : {code : Code} {w : Walk} → LeftFrom code w (std.Err q) → LeftFrom code w (after r k)
   left_exit d = rw handed d
 
--- a check
-pub require_passed : (w : Walk) (b : Bool) (n p x : ℕ) → b ≡ true → LeftFrom (require b n p x) w w
-unfolding require
-require_passed w b n p x e = rw e (record { did = λ m. nothing })
-
-pub require_failed : (w r : Walk) (b : Bool) (n p x : ℕ) → b ≡ false → LeftFrom (act (refuse n p x)) w r → LeftFrom (require b n p x) w r
-unfolding require
-require_failed w r b n p x e d = rw e d
+-- a check, as the definition's code has it
+pub required : (b : Bool) (m : reasons.Reason) (p x : ℕ) (q : Refusal) (r : std.Result (Unit {0}) Refusal) → q ≡ record { reason = m; place = p; extra = x } → r ≡ checked_as b q → Left (require b (number_of m) p x) r
+unfolding require checked_as
+required true m p x q r h e = λ k. rw e (record { did = λ n. nothing })
+required false m p x q r h e = λ k. rw (e, h) (refuse_did k m p x)
 
 -- a jump to a label, and the refusal where there is none
 pub jump_did : {S : Type 0} {K : Sinks S} {w : Walk} {o : S} {r : Walk} {o' : S} (number at : ℕ) (t : std.Option ℕ) (l : ℕ) → t ≡ std.Some l → EmittedFrom K (jump at 0x1F l) w o r o' → EmittedFrom K (jump_to number at (target_of t)) w o r o'
@@ -233,6 +230,12 @@ jump_did number at t l e d = rw e d
 pub no_jump : {S : Type 0} {K : Sinks S} {w r : Walk} (o : S) (number at : ℕ) (t : std.Option ℕ) → t ≡ std.None → LeftFrom (act (refuse number at 0)) w r → EmittedFrom K (jump_to number at (target_of t)) w o r o
 unfolding jump_to target_of
 no_jump o number at t e d = rw e (record { did = λ m. left d })
+
+-- a jump to a target, as the definition's code has it
+pub jumps_to : {S : Type 0} {K : Sinks S} (c c' : Counters) (o o' : S) (at : ℕ) (t : std.Option ℕ) (m : reasons.Reason) (q : Refusal) (r : std.Result (Unit {0}) Refusal) → q ≡ record { reason = m; place = at; extra = 0 } → JumpsTo K at t q c o r c' o' → Emits K (jump_to (number_of m) at (target_of t)) c o r c' o'
+unfolding JumpsTo
+jumps_to c c' o o' at std.None m q r e d = rw (d.0, d.2, e) (no_jump o _ at std.None refl (refuse_did c m at 0))
+jumps_to c c' o o' at (std.Some l) m q r e d = rw d.0 (jump_did _ at (std.Some l) l refl d.1)
 
 pub set_out : (m : List ℕ) (l v : ℕ) → length m ≤ l → set m l v ≡ m
 set_out [] l v h = refl

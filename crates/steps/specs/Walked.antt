@@ -1,5 +1,5 @@
 -- What the contracts of the walk cite: the code of what the bytes hold, and what a walk's value, its sink and its marks say together.
-use Rattle.std.specs.Prelude.{◌≡◌, ℕ, zero, suc, ◌+◌, ◌≤◌, ◌<◌, ◌%◌, ◌^◌, Bool, cond, ◌&&◌, ◌||◌, List, [], ◌∷◌, length, get_or, ◌==◌, ◌≢◌, nat_lt, slice_index, slice_index_or}
+use Rattle.std.specs.Prelude.{◌≡◌, ℕ, zero, suc, ◌+◌, ◌≤◌, ◌<◌, ◌%◌, ◌^◌, Bool, true, false, cond, ◌&&◌, ◌||◌, List, [], ◌∷◌, length, get_or, ◌==◌, ◌≢◌, nat_lt, slice_index, slice_index_or}
 use Rattle.std.proofs.Math.Option.{Option, none, some}
 use Rattle.definitions.specs.Answer.{Answer, ok, refused, Result, made, refusal, onward}
 use Rattle.definitions.specs.Bytes.{number}
@@ -191,6 +191,16 @@ pub record LeftFrom (code : Code) (w r : Walk) : Type 0 where
 
 abbrev pub Left : {A : Type 0} → (code : Code) (r : std.Result A Refusal) → Type 0
 Left code r = (c : Counters) → LeftFrom code (std.Ok c) (after r c)
+
+-- what a check answers: nothing, or the refusal
+unfoldable pub checked_as : {E : Type 0} → Bool → E → std.Result (Unit {0}) E
+checked_as true q = std.Ok tt
+checked_as false q = std.Err q
+
+-- a jump of the node at `at` to a target; where there is none, the refusal, and nothing else
+unfoldable pub JumpsTo : {S E : Type 0} (K : Sinks S) (at : ℕ) (target : std.Option ℕ) (q : E) (c : Counters) (o : S) (r : std.Result (Unit {0}) E) (c' : Counters) (o' : S) → Type 0
+JumpsTo K at std.None q c o r c' o' = (r ≡ std.Err q) × (c' ≡ c) × (o' ≡ o)
+JumpsTo K at (std.Some l) q c o r c' o' = (r ≡ std.Ok tt) × Emitted K (jump at Jump l) c o c' o'
 
 -- 5. Switches
 

@@ -52,7 +52,12 @@ impl Nodes<'_> {
         let mut k = 0;
         while i < self.end {
             let fits = flag_fits(is_prvalue_ref(self.unit, i), k);
-            require(fits, Reason::Flag, i, k + 1)?;
+            let flag = Refusal {
+                reason: Reason::Flag,
+                place: i,
+                extra: k + 1,
+            };
+            require(fits, flag)?;
             i = end_of(self.unit, i);
             k += 1;
         }

@@ -26,7 +26,7 @@ pub(crate) fn intrinsic<S: Sink>(
 {
     let code = usize::from(s[at + 5]);
     let fits = typed(code, usize::from(s[at + 6]), usize::from(s[at + 7]));
-    require(fits, Reason::Intrinsic, at, 0)?;
+    require(fits, Refusal::at(Reason::Intrinsic, at))?;
     let i = u32_inside(s, at + 8);
     c.plain(at, intrinsic_tag(code), intrinsic_small(code), i, sink);
     Ok(())
@@ -40,7 +40,12 @@ impl Nodes<'_> {
         ensures { Emits S.emitted (construct_code self.now.depth self.now.unit.now self.now.end at) c.old sink.old result c.new sink.new }
     {
         let n = self.count(at + 13);
-        require(n < 256, Reason::Construct, at, n)?;
+        let construct = Refusal {
+            reason: Reason::Construct,
+            place: at,
+            extra: n,
+        };
+        require(n < 256, construct)?;
         c.plain(at, Tag::Construct, n, u32_inside(self.unit, at + 5), sink);
         Ok(())
     }

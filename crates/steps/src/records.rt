@@ -1,5 +1,5 @@
 // Records: what each step emits, and how one is written where it fits.
-ghost use Rattle.std.specs.Prelude.{◌≡◌, ◌%◌, ◌^◌, cond};
+ghost use Rattle.std.specs.Prelude.{◌≡◌, ◌%◌, ◌^◌, ℕ, cond};
 ghost use Rattle.definitions.specs.Instr.{plain};
 ghost use Rattle.definitions.specs.Code.{Action, act};
 ghost use Rattle.definitions.specs.Lower.{jump, jumps, emit_switch, invoke};
@@ -12,7 +12,7 @@ use crate::counters::Counters;
 use crate::sinks::Sink;
 use instr::records::Record;
 use instr::tag::Tag;
-use instr::{listings, records};
+use instr::{listings, records, tables};
 
 // A record before its fields are cut to their widths.
 #[derive(Clone, Copy, Debug, PartialEq, Eq)]
@@ -27,13 +27,42 @@ pub struct Op {
     pub node: usize,
 }
 
+/// What stands for a record's tag: a `Tag`, or any byte.
+pub trait TagByte: Copy {
+    // The byte of the tag.
+    ghost byte: { Self → ℕ };
+
+    /// The byte of the tag.
+    fn tag_byte(self) -> u8
+        ensures { result ≡ byte self };
+}
+
+impl TagByte for Tag {
+    ghost byte = { byte_of };
+
+    #[inline(always)]
+    fn tag_byte(self) -> u8 {
+        self.byte()
+    }
+}
+
+impl TagByte for u8 {
+    ghost byte = { λ b. b };
+
+    #[inline(always)]
+    fn tag_byte(self) -> u8 {
+        self
+    }
+}
+
 impl Op {
     // With no field but its tag, of the node whose rule emits it.
-    pub fn new(tag: Tag, node: usize) -> Self
-        ensures { result ≡ record { tag = byte_of tag; small = 0; first = 0; second = 0; line = 0; flags = 0; value = 0; node = node } }
+    #[inline(always)]
+    pub fn new<T: TagByte>(tag: T, node: usize) -> Self
+        ensures { result ≡ record { tag = T.byte tag; small = 0; first = 0; second = 0; line = 0; flags = 0; value = 0; node = node } }
     {
         Op {
-            tag: tag.byte(),
+            tag: tag.tag_byte(),
             small: 0,
             first: 0,
             second: 0,
@@ -84,10 +113,17 @@ fn masked(used: bool, v: usize) -> usize
 impl Counters {
     // A record with no label.
     #[inline(always)]
-    pub fn plain<S: Sink>(&mut self, at: usize, tag: Tag, small: usize, value: usize, sink: &mut S)
-        ensures { Emitted S.emitted (act (Action.emit (plain at (byte_of tag) small value))) self.old sink.old self.new sink.new }
+    pub fn plain<T: TagByte, S: Sink>(
+        &mut self,
+        at: usize,
+        tag: T,
+        small: usize,
+        value: usize,
+        sink: &mut S,
+    )
+        ensures { Emitted S.emitted (act (Action.emit (plain at (T.byte tag) small value))) self.old sink.old self.new sink.new }
     {
-        let row = tag.row();
+        let row = tables::row_of(tag.tag_byte());
         let op = Op {
             small: masked(row.small != 0, small),
             value: masked(row.value != 0, value) as u64,
@@ -98,8 +134,8 @@ impl Counters {
 
     // With one label.
     #[inline(always)]
-    pub fn jump<S: Sink>(&mut self, at: usize, tag: Tag, to: usize, sink: &mut S)
-        ensures { Emitted S.emitted (jump at (byte_of tag) to) self.old sink.old self.new sink.new }
+    pub fn jump<T: TagByte, S: Sink>(&mut self, at: usize, tag: T, to: usize, sink: &mut S)
+        ensures { Emitted S.emitted (jump at (T.byte tag) to) self.old sink.old self.new sink.new }
     {
         let op = Op {
             first: to,
@@ -109,8 +145,15 @@ impl Counters {
     }
 
     // Conditional and SwitchLabel.
-    pub fn jumps<S: Sink>(&mut self, at: usize, tag: Tag, first: usize, second: usize, sink: &mut S)
-        ensures { Emitted S.emitted (jumps at (byte_of tag) first second) self.old sink.old self.new sink.new }
+    pub fn jumps<T: TagByte, S: Sink>(
+        &mut self,
+        at: usize,
+        tag: T,
+        first: usize,
+        second: usize,
+        sink: &mut S,
+    )
+        ensures { Emitted S.emitted (jumps at (T.byte tag) first second) self.old sink.old self.new sink.new }
     {
         let op = Op {
             first,
@@ -131,17 +174,17 @@ impl Counters {
         self.emit(op, sink);
     }
 
-    pub fn invoke<S: Sink>(
+    pub fn invoke<T: TagByte, S: Sink>(
         &mut self,
         at: usize,
-        tag: Tag,
+        tag: T,
         exit: usize,
         line: u16,
         flags: u16,
         value: usize,
         sink: &mut S,
     )
-        ensures { Emitted S.emitted (invoke at (byte_of tag) exit line flags value) self.old sink.old self.new sink.new }
+        ensures { Emitted S.emitted (invoke at (T.byte tag) exit line flags value) self.old sink.old self.new sink.new }
     {
         let op = Op {
             first: exit,

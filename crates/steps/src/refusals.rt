@@ -1,41 +1,33 @@
 // Refusals of the walk.
-ghost use Rattle.definitions.specs.Lower.{require, jump_to};
-ghost use Rattle.instr.specs.Refusals.{number_of};
-ghost use Rattle.steps.specs.Walked.{target_of, Emits, Left};
+ghost use Rattle.steps.specs.Walked.{checked_as, JumpsTo};
+ghost use Rattle.std.specs.Prelude.{◌≡◌};
 
 use crate::counters::Counters;
 use crate::sinks::Sink;
-use instr::refusals::{Reason, Refusal};
 use instr::tag::Tag;
 
-// Nothing where a check is passed, else the refusal.
-pub fn require(passed: bool, reason: Reason, place: usize, extra: usize) -> Result<(), Refusal>
-    ensures { Left (require «passed» (number_of reason) place extra) result }
+/// Nothing where a check is passed, else the refusal, whatever names it.
+#[tactic(auto, unfolding(crate::specs::Walked::checked_as))]
+pub fn require<E: Copy>(passed: bool, refusal: E) -> Result<(), E>
+    ensures { result ≡ checked_as «passed» refusal }
 {
-    if passed {
-        Ok(())
-    } else {
-        Err(Refusal {
-            reason,
-            place,
-            extra,
-        })
-    }
+    if passed { Ok(()) } else { Err(refusal) }
 }
 
 impl Counters {
-    // A jump to the target, or the refusal where there is none.
-    pub fn jump_to<S: Sink>(
+    /// A jump to the target of the node at `at`; where there is none, the refusal, whatever names it, and no record.
+    #[tactic(auto, unfolding(crate::specs::Walked::JumpsTo))]
+    pub fn jump_to<E: Copy, S: Sink>(
         &mut self,
-        reason: Reason,
         at: usize,
         target: Option<usize>,
+        refusal: E,
         sink: &mut S,
-    ) -> Result<(), Refusal>
-        ensures { Emits S.emitted (jump_to (number_of reason) at (target_of target)) self.old sink.old result self.new sink.new }
+    ) -> Result<(), E>
+        ensures { JumpsTo S.emitted at target refusal self.old sink.old result self.new sink.new }
     {
         let Some(label) = target else {
-            return Err(Refusal::at(reason, at));
+            return Err(refusal);
         };
         self.jump(at, Tag::Jump, label, sink);
         Ok(())

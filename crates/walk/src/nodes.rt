@@ -114,8 +114,14 @@ impl Holder<'_> {
                 init_default(self.nodes.unit, at, c, sink);
                 Ok(())
             }
-            StmtKind::Break => c.jump_to(Reason::Break, at, self.span.break_target, sink),
-            StmtKind::Continue => c.jump_to(Reason::Continue, at, self.span.continue_target, sink),
+            StmtKind::Break => {
+                let outside = Refusal::at(Reason::Break, at);
+                c.jump_to(at, self.span.break_target, outside, sink)
+            }
+            StmtKind::Continue => {
+                let outside = Refusal::at(Reason::Continue, at);
+                c.jump_to(at, self.span.continue_target, outside, sink)
+            }
             StmtKind::Return => self.ret(at, c, sink, marks),
         }
     }

@@ -9,7 +9,7 @@ use Rattle.definitions.specs.Tag.{Jump, JumpIfFalse, SwitchLabel}
 use Rattle.ir.proofs.Inversion.{stmt_moves}
 use Rattle.ir.specs.declared.Class.TheVariants.{Statement}
 use Rattle.steps.proofs.RunLaws.{all_cons, all_nil, goes_end, goes_on, goes_stops, node_code_law, one_step, renamed, rest_end, rest_flat, rest_next, rest_start, stmt_placed, turn}
-use Rattle.steps.proofs.StepLaws.{both, emit_stays, emitted, exit, halt, label_stays, made, mark_did, marked, nothing, numbered, recode, rerun, same_back, same_code, same_done, same_on, stays, unmade}
+use Rattle.steps.proofs.StepLaws.{both, emit_stays, emitted, exit, halt, jumps_to, label_stays, made, mark_did, marked, nothing, numbered, recode, rerun, same_back, same_code, same_done, same_on, stays, unmade}
 use Rattle.steps.specs.Walked.{ending, group_label, lower_all, span_of, target_of}
 use mathlib.Core.Path.{ap, ◌∙◌, refl, sym}
 use native.Mathlib.Omega.{arith}
@@ -268,11 +268,11 @@ stmt-returns-in-InitDefault g t c = recode (init_here _ _ _ _ (span_of c.args.se
 
 pub stmt-returns-in-Break : goal.stmt-returns-in-Break
 unfolding span_of
-stmt-returns-in-Break g t c = recode (break_code _ _ _ _ (span_of c.args.self.now.span) c.requires.accepted (sym c.requires.kind ∙ ap kinds.stmt_code c.in-Break.is)) (emitted c.jump_to.ensures)
+stmt-returns-in-Break g t c = recode (break_code _ _ _ _ (span_of c.args.self.now.span) c.requires.accepted (sym c.requires.kind ∙ ap kinds.stmt_code c.in-Break.is)) (emitted (jumps_to _ _ _ _ _ _ _ _ _ c.at-outside.ensures c.jump_to.ensures))
 
 pub stmt-returns-in-Continue : goal.stmt-returns-in-Continue
 unfolding span_of
-stmt-returns-in-Continue g t c = recode (continue_code _ _ _ _ (span_of c.args.self.now.span) c.requires.accepted (sym c.requires.kind ∙ ap kinds.stmt_code c.in-Continue.is)) (emitted c.jump_to-in-Continue.ensures)
+stmt-returns-in-Continue g t c = recode (continue_code _ _ _ _ (span_of c.args.self.now.span) c.requires.accepted (sym c.requires.kind ∙ ap kinds.stmt_code c.in-Continue.is)) (emitted (jumps_to _ _ _ _ _ _ _ _ _ c.at-outside-in-Continue.ensures c.jump_to-in-Continue.ensures))
 
 pub stmts-loop-here-init : goal.stmts-loop-here-init
 stmts-loop-here-init g t c = rest_start _ _ _ _ _ _ _ c.requires.at_le_end c.requires.accepted
