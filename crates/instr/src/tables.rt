@@ -7,7 +7,7 @@ ghost use Rattle.instr.specs.Tags.{byte_of};
 use crate::tag::Tag;
 
 // The virtual size of each tag; 0 where the base emits no such tag.
-static SIZES: [u8; 256] = [
+pub static SIZES: [u8; 256] = [
     // 0x00
     1, // Nop
     1, // Null
@@ -199,7 +199,7 @@ const I: Row = Row {
 };
 
 // The fields of each tag.
-static ROWS: [Row; 256] = [
+pub static ROWS: [Row; 256] = [
     // 0x00
     O, // Nop
     O, // Null
@@ -308,7 +308,7 @@ static ROWS: [Row; 256] = [
 ];
 
 // The tags of the default bytes 5 to 21.
-static DEFAULT_TAGS: [Tag; 17] = [
+pub static DEFAULT_TAGS: [Tag; 17] = [
     Tag::StringConst,
     Tag::CNameConst,
     Tag::ResourceConst,
