@@ -1,4 +1,6 @@
 // Nodes, runs and what a kind asks: one cycle of calls. Every child goes through `node`, where the depth that is left falls.
+// What only hands on to `list` is always inlined, so that a level of nested blocks is two calls, `node` and `list`: deep in a nest the
+// processor foresees no return, and each call more costs one.
 use super::expr::ExprKind;
 use super::fields::Part;
 use super::stmt::StmtKind;
@@ -15,8 +17,8 @@ impl Part<'_> {
     // A node of a class, of which this part is the holder: its depth, its length and kind, what its kind asks, its end.
     #[tactic(auto, using(crate::proofs::NodeLaws::deep, crate::proofs::NodeLaws::node_steps, crate::proofs::NodeLaws::statement, crate::proofs::NodeLaws::expression), unfolding(definitions::specs::Answer::bind))]
     #[cycle(nodes)]
-    fn node(self, at: usize, depth: usize, class: Class) -> Result<usize, Refusal>
-        ensures { end_answer result ≡ no_value (node_of class depth self.entry.unit.now self.entry.end at) }
+    fn node(&self, at: usize, depth: usize, class: Class) -> Result<usize, Refusal>
+        ensures { end_answer result ≡ no_value (node_of class depth self.now.unit.now self.now.end at) }
     {
         if depth == 0 {
             return Err(Refusal::at(Reason::Depth, at));
@@ -33,8 +35,8 @@ impl Part<'_> {
     // What the statement's kind asks, with depth for the nodes in it.
     #[tactic(auto, unfolding(definitions::specs::Answer::bind, crate::proofs::Laws::and_then, definitions::specs::Read::give, definitions::specs::Read::stmt_body, definitions::specs::Read::stmt_kinds, definitions::specs::Read::pick, definitions::specs::Read::unknown_kind, definitions::specs::Read::as_expr, definitions::specs::Read::as_block, definitions::specs::Read::as_while, definitions::specs::Read::as_branches, definitions::specs::Read::as_switch, definitions::specs::Read::as_init_array, definitions::specs::Read::as_break, definitions::specs::Read::as_continue, definitions::specs::Read::as_return, definitions::specs::Read::return_if))]
     #[cycle(nodes)]
-    fn stmt_kind(self, code: u8, at: usize, depth: usize) -> Result<usize, Refusal>
-        ensures { end_answer result ≡ no_value (kind_of Statement depth self.entry.unit.now code self.entry.place self.entry.end at) }
+    fn stmt_kind(&self, code: u8, at: usize, depth: usize) -> Result<usize, Refusal>
+        ensures { end_answer result ≡ no_value (kind_of Statement depth self.now.unit.now code self.now.place self.now.end at) }
     {
         let Ok(kind) = StmtKind::try_from(code) else {
             return Err(Refusal::at(Reason::Value, self.place));
@@ -80,8 +82,8 @@ impl Part<'_> {
     // What the expression's kind asks, with depth for the nodes in it.
     #[tactic(auto, unfolding(definitions::specs::Answer::bind, crate::proofs::Laws::and_then, definitions::specs::Read::give, definitions::specs::Read::expr_body, definitions::specs::Read::expr_kinds, definitions::specs::Read::pick, definitions::specs::Read::unknown_kind, definitions::specs::Read::as_nop, definitions::specs::Read::as_null, definitions::specs::Read::as_new_instance, definitions::specs::Read::as_construct, definitions::specs::Read::as_assign, definitions::specs::Read::as_field, definitions::specs::Read::as_index, definitions::specs::Read::as_conditional, definitions::specs::Read::as_dyn_cast, definitions::specs::Read::as_intrinsic, definitions::specs::Read::as_free_call, definitions::specs::Read::as_static_call, definitions::specs::Read::as_instance_call, definitions::specs::Read::as_closure_call, crate::specs::Verdict::calling))]
     #[cycle(nodes)]
-    fn expr_kind(self, code: u8, at: usize, depth: usize) -> Result<usize, Refusal>
-        ensures { end_answer result ≡ no_value (kind_of Expression depth self.entry.unit.now code self.entry.place self.entry.end at) }
+    fn expr_kind(&self, code: u8, at: usize, depth: usize) -> Result<usize, Refusal>
+        ensures { end_answer result ≡ no_value (kind_of Expression depth self.now.unit.now code self.now.place self.now.end at) }
     {
         let Ok(kind) = ExprKind::try_from(code) else {
             return Err(Refusal::at(Reason::Value, self.place));
@@ -147,8 +149,8 @@ impl Part<'_> {
     // A function and the arguments that it is called with.
     #[tactic(auto, unfolding(definitions::specs::Answer::bind, crate::proofs::Laws::and_then, definitions::specs::Read::arguments, definitions::specs::Read::ended, crate::specs::Verdict::closing, crate::specs::Verdict::calling))]
     #[cycle(nodes)]
-    fn call(self, at: usize, depth: usize) -> Result<usize, Refusal>
-        ensures { end_answer result ≡ no_value (calling self.entry.unit.now (parse_expr depth self.entry.unit.now) self.entry.place self.entry.end at) }
+    fn call(&self, at: usize, depth: usize) -> Result<usize, Refusal>
+        ensures { end_answer result ≡ no_value (calling self.now.unit.now (parse_expr depth self.now.unit.now) self.now.place self.now.end at) }
     {
         let (params, args) = self.callee(at)?;
         let (count, last) = self.list(args, depth, Item::Node(Class::Expression))?;
@@ -157,32 +159,35 @@ impl Part<'_> {
 
     // An expression.
     #[cycle(nodes)]
-    fn expr(self, at: usize, depth: usize) -> Result<usize, Refusal>
-        ensures { end_answer result ≡ no_value (parse_expr depth self.entry.unit.now self.entry.end at) }
+    fn expr(&self, at: usize, depth: usize) -> Result<usize, Refusal>
+        ensures { end_answer result ≡ no_value (parse_expr depth self.now.unit.now self.now.end at) }
     {
         self.node(at, depth, Class::Expression)
     }
 
     // Expressions, as a run.
+    #[inline(always)]
     #[cycle(nodes)]
-    fn exprs(self, at: usize, depth: usize) -> Result<usize, Refusal>
-        ensures { end_answer result ≡ no_value (run self.entry.unit.now self.entry.end (parse_expr depth self.entry.unit.now) at) }
+    fn exprs(&self, at: usize, depth: usize) -> Result<usize, Refusal>
+        ensures { end_answer result ≡ no_value (run self.now.unit.now self.now.end (parse_expr depth self.now.unit.now) at) }
     {
         self.run(at, depth, Item::Node(Class::Expression))
     }
 
     // Statements, as a run.
+    #[inline(always)]
     #[cycle(nodes)]
-    pub fn block(self, at: usize, depth: usize) -> Result<usize, Refusal>
-        ensures { end_answer result ≡ no_value (run self.entry.unit.now self.entry.end (parse_stmt depth self.entry.unit.now) at) }
+    pub fn block(&self, at: usize, depth: usize) -> Result<usize, Refusal>
+        ensures { end_answer result ≡ no_value (run self.now.unit.now self.now.end (parse_stmt depth self.now.unit.now) at) }
     {
         self.run(at, depth, Item::Node(Class::Statement))
     }
 
     // A run: its length, then items that fill it.
+    #[inline(always)]
     #[cycle(nodes)]
-    fn run(self, at: usize, depth: usize, item: Item) -> Result<usize, Refusal>
-        ensures { end_answer result ≡ no_value (run self.entry.unit.now self.entry.end (item_of item depth self.entry.unit.now) at) }
+    fn run(&self, at: usize, depth: usize, item: Item) -> Result<usize, Refusal>
+        ensures { end_answer result ≡ no_value (run self.now.unit.now self.now.end (item_of item depth self.now.unit.now) at) }
     {
         let (_count, next) = self.list(at, depth, item)?;
         Ok(next)
@@ -191,8 +196,8 @@ impl Part<'_> {
     // The same, with the number of items.
     #[tactic(auto, unfolding(definitions::specs::Answer::bind, crate::proofs::Laws::and_then, definitions::specs::Read::run))]
     #[cycle(nodes)]
-    fn list(self, at: usize, depth: usize, item: Item) -> Result<(usize, usize), Refusal>
-        ensures { answer result ≡ map_value length (run self.entry.unit.now self.entry.end (item_of item depth self.entry.unit.now) at) }
+    fn list(&self, at: usize, depth: usize, item: Item) -> Result<(usize, usize), Refusal>
+        ensures { answer result ≡ map_value length (run self.now.unit.now self.now.end (item_of item depth self.now.unit.now) at) }
     {
         let (run, first) = self.part(at)?;
         run.fill(first, depth, item)
@@ -200,8 +205,8 @@ impl Part<'_> {
 
     // Items from `first` up to the end of this run, and how many.
     #[cycle(nodes)]
-    fn fill(self, first: usize, depth: usize, item: Item) -> Result<(usize, usize), Refusal>
-        ensures { answer result ≡ map_value length (filling (item_of item depth self.entry.unit.now) self.entry.end first) }
+    fn fill(&self, first: usize, depth: usize, item: Item) -> Result<(usize, usize), Refusal>
+        ensures { answer result ≡ map_value length (filling (item_of item depth self.now.unit.now) self.now.end first) }
     {
         let mut next = first;
         let mut count = 0;
@@ -215,8 +220,8 @@ impl Part<'_> {
     // An item of a run: a node, or an arm, which is a condition (a matcher) and a block.
     #[tactic(auto, using(crate::proofs::NodeLaws::arm_item), unfolding(definitions::specs::Answer::bind, crate::proofs::Laws::and_then, definitions::specs::Read::give, definitions::specs::Read::arm))]
     #[cycle(nodes)]
-    fn item(self, at: usize, depth: usize, item: Item) -> Result<usize, Refusal>
-        ensures { end_answer result ≡ no_value (item_of item depth self.entry.unit.now self.entry.end at) }
+    fn item(&self, at: usize, depth: usize, item: Item) -> Result<usize, Refusal>
+        ensures { end_answer result ≡ no_value (item_of item depth self.now.unit.now self.now.end at) }
     {
         match item {
             Item::Node(class) => self.node(at, depth, class),
@@ -230,8 +235,8 @@ impl Part<'_> {
     // The default block, where its mark says that there is one.
     #[tactic(auto, unfolding(definitions::specs::Answer::bind, crate::proofs::Laws::and_then, definitions::specs::Read::give, definitions::specs::Read::block_if))]
     #[cycle(nodes)]
-    fn default(self, at: usize, depth: usize, mark: bool) -> Result<usize, Refusal>
-        ensures { end_answer result ≡ no_value (block_if (mark_of mark) (run self.entry.unit.now self.entry.end (parse_stmt depth self.entry.unit.now)) at) }
+    fn default(&self, at: usize, depth: usize, mark: bool) -> Result<usize, Refusal>
+        ensures { end_answer result ≡ no_value (block_if (mark_of mark) (run self.now.unit.now self.now.end (parse_stmt depth self.now.unit.now)) at) }
     {
         if mark {
             return self.block(at, depth);

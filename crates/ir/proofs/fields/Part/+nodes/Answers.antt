@@ -33,7 +33,7 @@ pub fill-loop-next-preserved : goal.fill-loop-next-preserved
 fill-loop-next-preserved t c = fill_more c.args.item _ _ _ _ _ _ _ c.loop-next.invariant c.loop-next-test.true c.in_ok-next.ensures
 
 pub fill-returns-in_err-next : goal.fill-returns-in_err-next
-fill-returns-in_err-next t c = grind (arith, fill_no c.args.item c.args.depth c.args.self.unit.now c.args.self.end c.args.first _ _ _ _ _ c.loop-next.invariant c.loop-next-test.true c.in_err-next.ensures)
+fill-returns-in_err-next t c = grind (arith, fill_no c.args.item c.args.depth c.args.self.now.unit.now c.args.self.now.end c.args.first _ _ _ _ _ c.loop-next.invariant c.loop-next-test.true c.in_err-next.ensures)
 
 pub fill-returns : goal.fill-returns
 fill-returns t c = fill_end c.args.item _ _ _ _ _ _ c.loop-next.invariant c.loop-next-test.false

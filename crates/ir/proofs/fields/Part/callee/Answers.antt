@@ -7,4 +7,4 @@ use Rattle.ir.proofs.fields.Part.callee.Goals as goal
 
 pub returns : goal.returns
 unfolding callee give ◌>>=◌ bind
-returns c = grind (arith, common_steps, marks_length c.args.self.unit.now c.args.self.place c.args.self.end c.in_ok-params.params c.in_ok-params.marks)
+returns c = grind (arith, common_steps, marks_length c.args.self.now.unit.now c.args.self.now.place c.args.self.now.end c.in_ok-params.params c.in_ok-params.marks)
