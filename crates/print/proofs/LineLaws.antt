@@ -49,6 +49,10 @@ no_total s = refl
 pub total_step : (sum n : ℕ) (s : List ℕ) {z : ℕ} {i : Instr} → Totals sum n s → i ≡ record_at s (front_length + record_length * n) → z ≡ tag_size i.tag → Totals (sum + z) (n + 1) s
 total_step sum n s t e f = rw (t, f, e, add-one n, records_more n s front_length) (sym (total_more (records_from n s front_length) (record_at s (front_length + record_length * n))))
 
+-- by a tag alone
+pub tag_step : (sum n : ℕ) (s : List ℕ) {z t : ℕ} → Totals sum n s → t ≡ (record_at s (front_length + record_length * n)).tag → z ≡ tag_size t → Totals (sum + z) (n + 1) s
+tag_step sum n s h e f = total_step sum n s h refl (rw e at f)
+
 -- their lines
 abbrev pub Lines : (sign : ℕ → ℤ) (n : ℕ) (s : List ℕ) (p q : Page) → Type 0
 Lines sign n s p q = Wrote (lines_text (lines_from sign 0 (records_from n s front_length))) p q

@@ -11,7 +11,7 @@ ghost use Rattle.print.specs.Writing.{far, longest, Wrote};
 use crate::Form;
 use crate::page::Page;
 use instr::records::Record;
-use instr::{listings, records, tables};
+use instr::{listings, numbers, records, tables};
 
 // A listing's bytes, and how many records it has. Instr and resolve hand a count on once and take no struct for it.
 #[derive(Clone, Copy)]
@@ -31,14 +31,26 @@ impl Listing<'_> {
         records::read_record(self.bytes, listings::FRONT + Record::LENGTH * n)
     }
 
+    // Its tag alone: all that the total takes of it.
+    #[tactic(auto, unfolding(definitions::specs::Instr::record_at, definitions::specs::Bytes::number))]
+    fn tag(&self, n: usize) -> u8
+        requires { n < self.now.count }
+        ensures { result ≡ (record_at self.now.bytes.now (front_length + record_length * n)).tag }
+    {
+        numbers::byte_at(
+            self.bytes,
+            listings::FRONT + Record::LENGTH * n + Record::TAG,
+        )
+    }
+
     // The total size of its records: what the first line says, before the lines are written.
-    #[tactic(auto, using(crate::proofs::LineLaws::no_total, crate::proofs::LineLaws::total_step))]
+    #[tactic(auto, using(crate::proofs::LineLaws::no_total, crate::proofs::LineLaws::tag_step))]
     pub(crate) fn total(&self) -> usize
         ensures { result ≡ total_size (records_in self.now) }
     {
         let mut sum: usize = 0;
         for n in 0..self.count {
-            sum += usize::from(tables::size_of(self.record(n).tag));
+            sum += usize::from(tables::size_of(self.tag(n)));
         }
         sum
     }

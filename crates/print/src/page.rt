@@ -1,5 +1,6 @@
 // Words and numbers as text, on a page.
-ghost use Rattle.std.specs.Prelude.{◌+◌, ◌≤◌, ◌<◌, ◌≡◌, [], ◌∷◌, length};
+ghost use Rattle.std.specs.Prelude.{◌+◌, ◌≤◌, ◌<◌, ◌≡◌, [], ◌∷◌, length, set};
+ghost use Rattle.std.proofs.lemmas.List.Edits.{sets};
 ghost use Rattle.definitions.specs.Text as Text;
 ghost use Rattle.print.specs.Values.{sign_of};
 ghost use Rattle.print.specs.Writing.{far, Wrote, Field};
@@ -14,26 +15,58 @@ pub(crate) struct Page<'a> {
     at: usize,
 }
 
-// A digit, capital above 9.
-fn digit(d: u64) -> u8
-    requires { d < 16 }
+// A digit in a base, capital above 9. Where no digit is above 9, none is looked up.
+fn digit<const BASE: u64>(d: u64) -> u8
+    requires { (d < BASE) × (BASE ≤ 16) }
     ensures { result ≡ Text.digit d }
 {
+    if BASE <= 10 {
+        return b'0' + d as u8;
+    }
     b"0123456789ABCDEF"[d as usize]
 }
 
-// How many decimal digits a number has. A `while`: no iterator gives the quotients.
-#[tactic(auto, using(crate::proofs::DigitLaws::one_place, crate::proofs::DigitLaws::more_places, crate::proofs::DigitLaws::places_most))]
+// How many decimal digits a number has. The limit is the least number with more than were counted,
+// so that no division is needed.
 fn places(n: u64) -> usize
     ensures { (result ≡ Text.places n) × (result ≤ 20) }
 {
     let mut count = 1;
-    let mut rest = n;
-    while 10 <= rest {
-        rest /= 10;
+    let mut limit = 10;
+    while limit <= n {
+        // The next limit would not fit, and no number has more than one digit more.
+        if count == 19 {
+            return 20;
+        }
+        limit *= 10;
         count += 1;
     }
     count
+}
+
+// A byte at its place, where the buffer has it.
+fn store(out: &mut [u8], at: usize, b: u8)
+    ensures { out.new ≡ set out.old at b }
+{
+    if at < out.len() {
+        out[at] = b;
+    }
+}
+
+// So many digits of a number in a base, the last one first, each at its place. Past the buffer's end
+// there is nothing to do.
+fn set_digits<const BASE: u64>(out: &mut [u8], at: usize, count: usize, n: u64)
+    requires { (0 < BASE) × (BASE ≤ 16) × (at + count < far) }
+    ensures { out.new ≡ sets out.old at (Text.digits BASE count n) }
+{
+    if out.len() <= at {
+        return;
+    }
+    let mut rest = n;
+    for k in (0..count).rev() {
+        store(out, at + k, digit::<BASE>(rest % BASE));
+        rest /= BASE;
+    }
 }
 
 impl Page<'_> {
@@ -55,9 +88,7 @@ impl Page<'_> {
         requires { self.old.at < far }
         ensures { Wrote (b ∷ []) self.old self.new }
     {
-        if self.at < self.out.len() {
-            self.out[self.at] = b;
-        }
+        store(self.out, self.at, b);
         self.at += 1;
     }
 
@@ -71,19 +102,14 @@ impl Page<'_> {
         }
     }
 
-    // So many digits of a number in a base, the last one first, and the byte that ends the field.
+    // So many digits of a number in a base, and the byte that ends the field.
     fn put_digits<const BASE: u64>(&mut self, count: usize, n: u64, end: u8)
-        requires digits { (0 < BASE) × (BASE ≤ 16) × (count ≤ 20) }
+        requires digits { (0 < BASE) × (BASE ≤ 16) }
         requires room { self.old.at + count < far }
         ensures { Field (count + 1) (Text.digits BASE count n) end self.old self.new }
     {
-        let mut digits = [0; 20];
-        let mut rest = n;
-        for k in (0..count).rev() {
-            digits[k] = digit(rest % BASE);
-            rest /= BASE;
-        }
-        self.word(&digits[..count]);
+        set_digits::<BASE>(self.out, self.at, count, n);
+        self.at += count;
         self.put(end);
     }
 
