@@ -159,7 +159,7 @@ spread : (a b c : List ℕ) → (a ++ b) ++ c ≡ (a ++ []) ++ (b ++ c)
 spread a b c = rw (append-nil a) (append_assoc a b c)
 
 -- a listing that was copied to the front of a buffer, before the first record
-pub coding_start : (P : Pass) (s : List ℕ) (count : ℕ) → Accepted s count → ((k : ℕ) → get_or s k 0 < 256) → (o : List ℕ) → length s ≤ length o → Coding P s count 0 0 o (s ++ drop (length s) o)
+pub coding_start : (P : Pass) (s : List ℕ) (count : ℕ) → Accepted s count → ((k : ℕ) → get_or s k 0 < 256) → (o : List ℕ) → length s ≤ length o → Coding P s count 0 0 o (over s o)
 unfolding over records_bytes
 coding_start P s count a b o room =
     let is = records_from count s front_length in

@@ -3,7 +3,7 @@ ghost use Rattle.std.specs.Prelude.{◌≡◌, ◌+◌, ◌≤◌, length, get_o
 ghost use Rattle.definitions.specs.Tag.{row_of};
 ghost use Rattle.definitions.specs.Instr.{record_length, record_at};
 ghost use Rattle.definitions.specs.Listing.{records_of, read_listing};
-ghost use Rattle.definitions.specs.Stage.{coded, resolve_to};
+ghost use Rattle.definitions.specs.Stage.{over, coded, resolve_to};
 ghost use Rattle.instr.specs.Refusals.{answer};
 ghost use Rattle.instr.specs.Values.{row_marks, counted};
 ghost use Rattle.resolve.specs.Mapping.{Mapped, map_field, map_fields, map_records, try_records, rewrite};
@@ -52,8 +52,10 @@ pub trait Mapping {
         ensures { answer result ≡ maps self.now carrier.tag carrier.start carrier.number (extra_of operand) field };
 }
 
-// A field, mapped where the row of the tag says that it carries something.
+// A field, mapped where the row of the tag says that it carries something. Always inlined, as
+// `map_fields` is: out of line each answer goes through memory, and storing takes twice as long.
 #[tactic(auto, unfolding(crate::specs::Mapping::map_field, instr::specs::Refusals::answer))]
+#[inline(always)]
 fn map_field<M: Mapping>(
     mapping: &M,
     carries: bool,
@@ -71,6 +73,7 @@ fn map_field<M: Mapping>(
 }
 
 // The first, then the second, of the record that begins at a place of a listing.
+#[inline(always)]
 fn map_fields<M: Mapping>(
     mapping: &M,
     row: Row,
@@ -112,6 +115,18 @@ fn check_fields<M: Mapping>(mapping: &M, listing: &[u8], count: usize) -> Result
     Ok(())
 }
 
+// The listing at the front of the buffer; what follows it stays. Byte by byte: `copy_from_slice` would
+// call `memmove`, which nothing else in the static library needs.
+#[tactic(auto, unfolding(definitions::specs::Stage::over))]
+fn copy_listing(listing: &[u8], out: &mut [u8])
+    requires { length listing.now ≤ length out.old }
+    ensures { out.new ≡ over listing.now out.old }
+{
+    for k in 0..listing.len() {
+        out[k] = listing[k];
+    }
+}
+
 // The listing as it is, then the mapped fields into their places. Each has been checked before: none is refused here.
 #[tactic(auto, using(crate::proofs::Passes::few_records, crate::proofs::Passes::whole_listing))]
 fn write_fields<M: Mapping>(mapping: &M, listing: &[u8], count: usize, out: &mut [u8])
@@ -120,7 +135,7 @@ fn write_fields<M: Mapping>(mapping: &M, listing: &[u8], count: usize, out: &mut
     requires checked { answer (Ok tt) ≡ try_records (M.maps mapping.now) 0 0 (records_of listing.now) }
     ensures { coded count out.new ≡ resolve_to (map_records (M.maps mapping.now) 0 0 (records_of listing.now)) out.old }
 {
-    out[..listing.len()].copy_from_slice(listing);
+    copy_listing(listing, out);
     let mut offset = 0;
     for number in 0..count {
         let at = listings::FRONT + Record::LENGTH * number;

@@ -67,7 +67,9 @@ impl Way {
 impl Mapping for Way {
     ghost maps = { λ w. moved (way_is w) };
 
+    // Always inlined, as what calls it in `rewrite` is.
     #[tactic(auto, using(crate::proofs::LessLaws::less_at_none, crate::proofs::FieldLaws::moved_is))]
+    #[inline(always)]
     fn map(&self, carrier: Carrier, operand: Operand, field: u16) -> Result<u16, Refusal> {
         let off = match Tag::try_from(carrier.tag) {
             Ok(tag) => less_of(tag, operand),

@@ -9,7 +9,7 @@ use Rattle.resolve.proofs.mapping.write_fields.Goals as goal
 
 pub loop-number-init : goal.loop-number-init
 loop-number-init g c =
-    rw c.copy_from_slice.ensures.after (coding_start _ _ _ (accepted _ _ c.requires.good) (λ k. omega (arith, c.type_inv.listing k)) _ c.requires.room)
+    rw c.copy_listing.ensures (coding_start _ _ _ (accepted _ _ c.requires.good) (λ k. omega (arith, c.type_inv.listing k)) _ c.requires.room)
 
 pub loop-number-preserved : goal.loop-number-preserved
 loop-number-preserved g c =
