@@ -118,7 +118,7 @@ fn check_fields<M: Mapping>(mapping: &M, listing: &[u8], count: usize) -> Result
 // The listing at the front of the buffer; what follows it stays. Byte by byte: `copy_from_slice` would
 // call `memmove`, which nothing else in the static library needs.
 #[tactic(auto, unfolding(definitions::specs::Stage::over))]
-fn copy_listing(listing: &[u8], out: &mut [u8])
+pub fn copy_listing(listing: &[u8], out: &mut [u8])
     requires { length listing.now ≤ length out.old }
     ensures { out.new ≡ over listing.now out.old }
 {
