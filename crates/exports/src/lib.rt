@@ -117,12 +117,8 @@ pub extern "C" fn delzhomo_lower(
     ensures out_after { out.new ≡ out_of (lower_to (lower_into unit.now (length out.old) (length marks.old)) out.old marks.old) }
     ensures marks_after { marks.new ≡ marks_of (lower_to (lower_into unit.now (length out.old) (length marks.old)) out.old marks.old) }
 {
-    give(
-        totals(assemble::lower(unit, out, marks)),
-        first,
-        second,
-        third,
-    )
+    let lowered = totals(assemble::lower(unit, out, marks));
+    give(lowered, first, second, third)
 }
 
 // The listing with distances in place of its labels: records.
@@ -139,12 +135,8 @@ pub extern "C" fn delzhomo_resolve(
     ensures third_after { numbers result first.new second.new third.new ≡ resolved (resolve_to (resolve listing.now marks.now (length out.old)) out.old) }
     ensures out_after { out.new ≡ code_of (resolve_to (resolve listing.now marks.now (length out.old)) out.old) }
 {
-    give(
-        count(resolve::resolve(listing, marks, out)),
-        first,
-        second,
-        third,
-    )
+    let resolved = count(resolve::resolve(listing, marks, out));
+    give(resolved, first, second, third)
 }
 
 // Whether a slice is a listing: its records.

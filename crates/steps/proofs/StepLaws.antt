@@ -216,11 +216,20 @@ module _ {A : Type 0} (r : std.Result A Refusal) (q : Refusal) (h : std.IsErrAnd
   pub left_exit : {code : Code} {w : Walk} → LeftFrom code w (std.Err q) → LeftFrom code w (after r k)
   left_exit d = rw handed d
 
--- a check, as the definition's code has it
+-- a check
+pub require_passed : (w : Walk) (b : Bool) (n p x : ℕ) → b ≡ true → LeftFrom (require b n p x) w w
+unfolding require
+require_passed w b n p x e = rw e (record { did = λ m. nothing })
+
+pub require_failed : (w r : Walk) (b : Bool) (n p x : ℕ) → b ≡ false → LeftFrom (act (refuse n p x)) w r → LeftFrom (require b n p x) w r
+unfolding require
+require_failed w r b n p x e d = rw e d
+
+-- as the definition's code has it
 pub required : (b : Bool) (m : reasons.Reason) (p x : ℕ) (q : Refusal) (r : std.Result (Unit {0}) Refusal) → q ≡ record { reason = m; place = p; extra = x } → r ≡ checked_as b q → Left (require b (number_of m) p x) r
-unfolding require checked_as
-required true m p x q r h e = λ k. rw e (record { did = λ n. nothing })
-required false m p x q r h e = λ k. rw (e, h) (refuse_did k m p x)
+unfolding checked_as
+required true m p x q r h e = λ k. rw e (require_passed (std.Ok k) true (number_of m) p x refl)
+required false m p x q r h e = λ k. rw (e, h) (require_failed (std.Ok k) _ false (number_of m) p x refl (refuse_did k m p x))
 
 -- a jump to a label, and the refusal where there is none
 pub jump_did : {S : Type 0} {K : Sinks S} {w : Walk} {o : S} {r : Walk} {o' : S} (number at : ℕ) (t : std.Option ℕ) (l : ℕ) → t ≡ std.Some l → EmittedFrom K (jump at 0x1F l) w o r o' → EmittedFrom K (jump_to number at (target_of t)) w o r o'

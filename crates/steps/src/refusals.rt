@@ -15,7 +15,8 @@ pub fn require<E: Copy>(passed: bool, refusal: E) -> Result<(), E>
 }
 
 impl Counters {
-    /// A jump to the target of the node at `at`; where there is none, the refusal, whatever names it, and no record.
+    /// A jump to the target of the node at `at`; where there is none, the refusal, whatever names
+    /// it, and no record.
     #[tactic(auto, unfolding(crate::specs::Walked::JumpsTo))]
     pub fn jump_to<E: Copy, S: Sink>(
         &mut self,
