@@ -94,9 +94,25 @@ same (suc m) (suc k) n h g = elim (dec_lt n 10) [
       more m n (omega arith) ∙ ap suc (same m k (n / 10) (omega arith) (omega arith)) ∙ sym (more k n (omega arith))
 ]
 
-more_places : (n : ℕ) → 10 ≤ n → places n ≡ suc (places (n / 10))
+-- one below ten, else one more than a tenth of it has
+pub one_place : (n : ℕ) → n < 10 → places n ≡ 1
+one_place n h = few n n h
+
+pub more_places : (n : ℕ) → 10 ≤ n → places n ≡ places (n / 10) + 1
 more_places zero h = absurd (omega arith)
-more_places (suc n) h = let t = tenth (suc n) h in more n (suc n) h ∙ ap suc (same n (suc n / 10) (suc n / 10) (omega arith) (omega arith))
+more_places (suc n) h = let t = tenth (suc n) h in more n (suc n) h ∙ ap suc (same n (suc n / 10) (suc n / 10) (omega arith) (omega arith)) ∙ omega arith
+
+-- below 10 ^ suc k at most suc k
+pub places_fit : (k n : ℕ) → n < 10 ^ suc k → places n ≤ suc k
+places_fit zero n h = omega (arith, one_place n (omega arith))
+places_fit (suc k) n h = elim (dec_lt n 10) [
+  | yes l ↦ omega (arith, one_place n l)
+  | no l ↦ omega (arith, more_places n (omega arith), places_fit k (n / 10) ((div-lt_iff_lt-mul {k = 10} (lit< tt)).1 (rw (pow-suc 10 (suc k)) at h)))
+]
+
+-- of 64 bits at most twenty
+pub places_most : (n : ℕ) → n < 2 ^ 64 → places n ≤ 20
+places_most n h = places_fit 19 n (omega arith)
 
 -- a power of ten is above 0
 pos : (j : ℕ) → 0 < 10 ^ j
@@ -125,11 +141,11 @@ module _ (n count : ℕ) (some : 0 < count) (e : Counted n count) where
   places_end h =
       let p = pow in
       let q : n / 10 ^ (count - 1) < 10 = (div-lt_iff_lt-mul (pos (count - 1))).1 (omega arith) in
-      omega (arith, few (n / 10 ^ (count - 1)) (n / 10 ^ (count - 1)) q)
+      omega (arith, one_place (n / 10 ^ (count - 1)) q)
 
 -- the limit, up to the largest number
-pub places_most : (n count limit : ℕ) → count ≡ 19 → Counted n count → limit ≡ 10 ^ count → limit ≤ n → n < 2 ^ 64 → 20 ≡ places n
-places_most n count limit e c l h f =
+pub places_largest : (n count limit : ℕ) → count ≡ 19 → Counted n count → limit ≡ 10 ^ count → limit ≤ n → n < 2 ^ 64 → 20 ≡ places n
+places_largest n count limit e c l h f =
     let d : Counted n 19 = rw e at c in
     let m : limit ≡ 10 ^ 19 = rw e at l in
     places_end n 20 (lit< tt) (places_step n 19 (lit< tt) d (omega arith)) (omega arith)

@@ -1,7 +1,7 @@
 -- The limit is the power of ten that has one digit more than were counted.
 use mathlib.Core.Path.{refl}
 use native.Mathlib.Omega.{arith}
-use Rattle.print.proofs.DigitLaws.{places_start, places_step, places_end, places_most, limit_fits, limit_step}
+use Rattle.print.proofs.DigitLaws.{places_start, places_step, places_end, places_largest, limit_fits, limit_step}
 use Rattle.print.proofs.page.places.Goals as goal
 
 pub loop-limit-init : goal.loop-limit-init
@@ -10,7 +10,7 @@ loop-limit-init c = record { some = omega arith; few = omega arith; power = refl
 pub returns-then-count-eq19 : goal.returns-then-count-eq19
 returns-then-count-eq19 c =
     let turn = c.loop-limit in
-    (places_most c.args.n turn.count turn.limit c.if-count-eq19.true turn.invariant.counted turn.invariant.power c.loop-limit-test.true (omega arith), omega arith)
+    (places_largest c.args.n turn.count turn.limit c.if-count-eq19.true turn.invariant.counted turn.invariant.power c.loop-limit-test.true (omega arith), omega arith)
 
 pub overflow_mul-limit : goal.overflow_mul-limit
 overflow_mul-limit c = omega (arith, limit_fits c.loop-limit.count (omega arith))
